@@ -28,8 +28,8 @@ import tempfile
 import time
 
 ROOT = pathlib.Path(__file__).resolve().parent.parent
-sys.path.insert(0, str(ROOT / "tools"))
-import wayland_wire  # pylint: disable=wrong-import-position
+sys.path.insert(0, str(ROOT / "python"))
+from wlframe.wayland import wire as wayland_wire  # pylint: disable=wrong-import-position
 
 PROGRAM = ROOT / "crates" / "wlframe" / "out" / "wlframe"
 WHOLE = 1920, 1080

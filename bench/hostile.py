@@ -1,9 +1,21 @@
-"""Hostile clients for bench/soak, by kinds: what each sends, and a crowd of 31 of them.
+#!/usr/bin/env python3
+"""Hostile clients for bench/soak, by kinds: what each sends, and a crowd of 31 of them. As a command it measures what a message of the dear kinds costs.
+
+    bench/hostile.py [--program FILE] [--kinds KIND,..] [--most N]
+
+    --program FILE    the program wlframe, where it isn't the one that ./wlframe built
+    --kinds KIND,..   which of them (all): stacks, large_stacks, moves, large_moves, hits, popups, damages, changes, copies, columns, opaque_columns,
+                      translucent, first_pool, side_file
+    --most N          how many of a message are sent at most (16384)
+
+It prints a table of processor milliseconds of the server: for a message, or for a tick that a message leads to, and for as many messages as the server reads
+of a client in a turn. A replay of few is taken from one of more, until the difference takes half a second. `side_file` is measured at `wlframe serve`.
 
 A kind is a generator of what a connection sends, piece by piece, and of how many requests a piece is meant to be. It may go on for ever: the
-server ends most. Each connection asks for POOLS bytes of pools at most, but that of one place of the crowd, which may ask for as many as there are.
-The SLOW kinds can hold up the others for longer than a good client may wait; docs/PROMISES.md tells by what.
+server ends most. Each connection asks for POOLS bytes of pools at most, but that of one place of the crowd, whose kinds are LARGE where any is asked for:
+it may ask for as many as there are. bench/costly.py has the kinds that send one dear message again and again.
 """
+import argparse
 import contextlib
 import functools
 import itertools
@@ -16,10 +28,13 @@ import struct
 import sys
 import time
 
+import costly
+from costly import COSTLY
 from flood import TITLE
 from frames import ROOT, message
-import wayland_wire
-from wayland_table import GLOBALS, INTERFACES
+from opening import BASE, BEGIN, BEGUN, COMPOSITOR, FIRST, OUTPUT, REGISTRY, SEAT, SHM, SUBCOMPOSITOR, shown  # pylint: disable=unused-import
+from server import PROGRAM
+from wlframe.wayland import wire as wayland_wire
 
 CROWD = 31
 POOLS = 8 << 20  # bytes
@@ -29,14 +44,10 @@ MEMORY = "memory"  # the file that stands for the memory of pools
 SENT = 1 << 16  # bytes that a connection sends at once
 TAKEN = 1 << 18  # bytes that a connection reads at once
 PAUSE = 0.002  # seconds, where nobody can go on
-REGISTRY, COMPOSITOR, SUBCOMPOSITOR, SHM, OUTPUT, SEAT, BASE, FIRST = 2, 3, 4, 5, 6, 7, 8, 9  # ids
+COUNTS = 4  # numbers that a crowd counts, before those of its places
 WORDS = [0, 1, 2, 3, 7, 8, 9, 0x7FFFFFFF, 0x80000000, 0xFFFFFFFF, 0xFEFFFFFF, 0xFF000000, 0x00100000, 0x00080001, 0xFFFC0000]
 SIDE = 32  # pixels of a window
 POOL_SIZES = re.compile(rb"(?s)(?=(?:\x00\x00\x10\x00....|\x02\x00\x0c\x00)(....))")  # of all that may be a create_pool or a resize
-BEGIN = message(1, 1, REGISTRY) + b"".join(
-    message(REGISTRY, 0, 1 + place, interface, INTERFACES[interface].version, COMPOSITOR + place) for place, interface in enumerate(GLOBALS)
-)
-BEGUN = 1 + len(GLOBALS)  # requests
 
 
 def recorded():
@@ -230,14 +241,6 @@ def titles(mine):
         yield title * 8, 8
 
 
-def shown(surface, serial, buffer=None):
-    """Makes the toplevel surface + 2 of an xdg_surface surface + 1; where there is a buffer, maps it: its configure has the serial."""
-    made = message(COMPOSITOR, 0, surface) + message(BASE, 2, surface + 1, surface) + message(surface + 1, 1, surface + 2)
-    if buffer is None:
-        return made
-    return made + message(surface, 6) + message(surface + 1, 4, serial) + message(surface, 1, buffer, 0, 0) + message(surface, 6)
-
-
 def bounds(chance):
     """A rectangle: a likely one, or one at the ends of the numbers."""
     if chance.random() < 0.1:
@@ -407,15 +410,27 @@ def regions(mine):
         yield message(FIRST, 4, region) + message(FIRST, 5, region) + message(FIRST, 6), 3
 
 
-KINDS = {it.__name__: it for it in (noise, mutated, flood, comes, halves, pools, large, titles, windows, menus, pointers, regions)}
-SLOW = "large", "regions"
+def lures(mine):
+    """Requests that cost nothing, and then dear ones, in turns: whoever reads more at once of a client that was cheap is caught by them."""
+    dear = COSTLY["popups"]
+    mine.put_file(1)
+    yield dear.begin(dear.side), BEGUN
+    cheap = message(costly.ROOT + 2, 8, 0, 0) * 1024  # xdg_toplevel.set_min_size
+    while True:
+        yield cheap + dear.again(0) * 512, 1536
+
+
+KINDS = {it.__name__: it for it in (noise, mutated, flood, comes, halves, pools, large, titles, windows, menus, pointers, regions, lures)}
+KINDS |= {kind: costly.again(kind) for kind in COSTLY}
+LARGE = ["large", *costly.LARGE]
+NAMES = list(KINDS)
 
 
 class Place:
     """A place of the crowd, with a connection of some kind or without."""
 
-    def __init__(self, crowd, kinds):
-        self.crowd, self.kinds, self.socket = crowd, kinds, None
+    def __init__(self, crowd, number, kinds):
+        self.crowd, self.number, self.kinds, self.socket = crowd, number, kinds, None
 
     def connect(self):
         """Connects as some kind, if the server has room for those that wait."""
@@ -431,6 +446,7 @@ class Place:
         self.mine = Hostile(chance, self.crowd.connected(), self.crowd.folder)
         self.pieces, self.waiting = KINDS[kind](self.mine), b""
         self.reads = getattr(KINDS[kind], "reads", chance.random() < 0.9)
+        self.crowd.counts[COUNTS + self.number] = 1 + NAMES.index(kind)
         return True
 
     def end(self, by_server=False):
@@ -438,6 +454,7 @@ class Place:
         self.socket = None
         self.mine.end()
         self.crowd.counts[3] += by_server
+        self.crowd.counts[COUNTS + self.number] = 0
 
     def close_half(self):
         self.socket.shutdown(self.mine.closes)
@@ -485,13 +502,15 @@ class Place:
 
 
 class Crowd:
-    """Hostile clients of the server at a path. Counted are connections, requests, bytes, and connections that the server ended."""
+    """Hostile clients of the server at a path. Counted are connections, requests, bytes, and connections that the server ended; then it is told
+    of each place of the crowd by which of the NAMES it is connected, from 1 on, or 0 where it isn't."""
 
     def __init__(self, path, folder, seed, kinds, counts):
         self.path, self.folder, self.counts = path, pathlib.Path(folder), counts
         self.chance = random.Random(seed)
-        few = [it for it in kinds if it != "large"] or kinds
-        self.places = [Place(self, kinds if place == 0 else few) for place in range(CROWD)]
+        few = [it for it in kinds if it not in LARGE]
+        many = [it for it in kinds if it in LARGE]
+        self.places = [Place(self, place, (many or few) if place == 0 else few) for place in range(CROWD if few else 1)]
 
     def connected(self):
         """The number of a new connection: the good client's is 1."""
@@ -514,3 +533,24 @@ def storm(path, folder, seed, kinds, counts, seconds):
     os.nice(5)
     Crowd(path, folder, seed, kinds, counts).run(seconds)
     sys.exit(0)
+
+
+def main():
+    """Measures the dear kinds."""
+    words = argparse.ArgumentParser(usage="bench/hostile.py [OPTION ..]", description=__doc__.splitlines()[0])
+    words.add_argument("--program", type=pathlib.Path, default=PROGRAM, help="the program, where it isn't the one that ./wlframe built")
+    words.add_argument("--kinds", default=",".join(COSTLY), help="which kinds")
+    words.add_argument("--most", type=int, default=costly.MOST, help="how many of a message are sent at most")
+    asked = words.parse_args()
+    asked.kinds = asked.kinds.split(",")
+    wrong = [it for it in asked.kinds if it not in COSTLY]
+    if wrong:
+        words.error(f"no kind {wrong[0]}: they are {', '.join(COSTLY)}")
+    if not asked.program.exists():
+        words.error("build the program first: ./wlframe --help")
+    print(f"load {os.getloadavg()[0]:.1f}")
+    costly.table(asked.program.resolve(), asked.kinds, max(1, asked.most))
+
+
+if __name__ == "__main__":
+    main()

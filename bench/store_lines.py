@@ -20,8 +20,8 @@ import tempfile
 import time
 
 TOP = pathlib.Path(__file__).resolve().parent.parent
-sys.path.insert(0, str(TOP / "tools"))
-from wayland_wire import message, spelled_string  # pylint: disable=wrong-import-position
+sys.path.insert(0, str(TOP / "python"))
+from wlframe.wayland.wire import message, spelled_string  # pylint: disable=wrong-import-position
 
 PROGRAM = TOP / "crates" / "wlframe" / "out" / "wlframe"
 BYTES_A_LINE = 60_000

@@ -37,7 +37,7 @@ def weston(room):
     """A compositor that listens, by its process."""
     words = ["weston", "--backend=headless-backend.so", "--use-pixman", "--width=1920", "--height=1080", "--idle-time=0", "--socket=bench-0", "--no-config"]
     with open(room / "log", "w") as log:
-        process = subprocess.Popen(words, stdout=log, stderr=log, env={**os.environ, "XDG_RUNTIME_DIR": str(room)})
+        process = subprocess.Popen(words, stdout=log, stderr=log, env={**os.environ, "XDG_RUNTIME_DIR": str(room)}, start_new_session=True)
     for _ in range(100):
         if (room / "bench-0").exists():
             time.sleep(0.5)

@@ -12,8 +12,8 @@ import struct
 import sys
 import zlib
 
-sys.path.insert(0, str(pathlib.Path(__file__).resolve().parent.parent / "tools"))
-from pictures import SIGNATURE, chunk, read  # pylint: disable=wrong-import-position
+sys.path.insert(0, str(pathlib.Path(__file__).resolve().parent.parent / "python"))
+from wlframe.pictures import SIGNATURE, chunk, read  # pylint: disable=wrong-import-position
 
 OUTPUT = 160, 96
 # The ball's window stands at the place of the second toplevel, and shows what is below it but for the ball.

@@ -27,9 +27,9 @@ import re
 import struct
 import sys
 
-sys.path.insert(0, str(pathlib.Path(__file__).resolve().parent.parent / "tools"))
-from wayland_table import GLOBALS, INTERFACES, Argument, enum_of  # pylint: disable=wrong-import-position
-from wayland_wire import message, spelled_string  # pylint: disable=wrong-import-position
+sys.path.insert(0, str(pathlib.Path(__file__).resolve().parent.parent / "python"))
+from wlframe.wayland.table import GLOBALS, INTERFACES, Argument, enum_of  # pylint: disable=wrong-import-position
+from wlframe.wayland.wire import message, spelled_string  # pylint: disable=wrong-import-position
 
 FORMATS = {name: str(value) for name, value in enum_of("wl_shm.format").values.items()}
 MAX_CLIENTS = 32

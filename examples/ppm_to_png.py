@@ -9,8 +9,8 @@ FRAMES is the file that `wlframe replay --ppm FRAMES` wrote. The folder is made 
 import pathlib
 import sys
 
-sys.path.insert(0, str(pathlib.Path(__file__).resolve().parent.parent / "tools"))
-from pictures import Picture, Unreadable, png, read  # pylint: disable=wrong-import-position
+sys.path.insert(0, str(pathlib.Path(__file__).resolve().parent.parent / "python"))
+from wlframe.pictures import Picture, Unreadable, png, read  # pylint: disable=wrong-import-position
 
 GAP = 4  # columns between two frames of a row
 

@@ -1,8 +1,9 @@
 """Proves crates, and keeps what rattle made of each in crates/wlframe/out/rlib: 1.7 GB for the program.
 
 A crate is proved once those that it uses are: as many side by side as there are processors and memory for, those with the longest chains behind them
-first, and where few can go on, each with several processors. Each that is proved is kept with a sum of all that it was made from, NAME.sum, and with what
-rattle said, NAME.log: so a build that was interrupted goes on where it stopped, and one after an edit proves what changed and what stands on it.
+first, and where few can go on, each with several processors. Each that is proved is kept with a sum of all that it was made from, NAME.sum, with what
+rattle said, NAME.log, and with the seconds that it took, NAME.took: so a build that was interrupted goes on where it stopped, one after an edit proves
+what changed and what stands on it, and each says how long it will take.
 """
 import collections
 import contextlib
@@ -17,8 +18,9 @@ import time
 
 import kit
 
-# A crate that is being proved: with how many jobs, and as how many processors and megabytes it counts.
-Run = collections.namedtuple("Run", "crate jobs share need")
+# A crate that is being proved: with how many jobs, as how many processors and megabytes it counts, and since when.
+Run = collections.namedtuple("Run", "crate jobs share need since")
+SECONDS_A_LINE = 0.15  # of a crate that wasn't proved on this machine yet, by the lines of its code
 
 
 def say(what):
@@ -29,6 +31,18 @@ def text_of(path):
     with contextlib.suppress(FileNotFoundError), open(path, encoding="utf-8", errors="replace") as it:
         return it.read()
     return ""
+
+
+def lines_of(crate):
+    """Returns how many lines of code a crate has."""
+    sources = (f"{at}/{it}" for at, _, names in os.walk(f"{crate.folder}/src") for it in names if it.endswith(".rt"))
+    return sum(text_of(it).count("\n") for it in sources)
+
+
+def seconds_of(crate):
+    """Returns how many seconds the crate will take: as many as the last time, where it was proved here, and else by its lines."""
+    took = text_of(file_of(crate, "took"))
+    return float(took) if took else lines_of(crate) * SECONDS_A_LINE
 
 
 def file_of(crate, kind):
@@ -64,14 +78,25 @@ class Build:
         self.memory = int(free.split()[1]) * 85 // 100 // 1000
 
     def measure_chains(self):
-        """Counts what a crate takes to be proved, in lines of code, and what the longest chain takes that begins with it."""
-        self.work, self.behind = {}, dict.fromkeys(self.crates, 0)
+        """Says what each crate takes to be proved, in seconds, and what the longest chain takes that begins with it."""
+        self.lines = {it: lines_of(it) for it in self.crates}
+        self.work, self.behind = {it: seconds_of(it) for it in self.crates}, dict.fromkeys(self.crates, 0.0)
         for crate in reversed(self.crates):
-            sources = (f"{at}/{it}" for at, _, names in os.walk(f"{crate.folder}/src") for it in names if it.endswith(".rt"))
-            self.work[crate] = sum(text_of(it).count("\n") for it in sources)
             self.behind[crate] += self.work[crate]
             for low in crate.own():
                 self.behind[low] = max(self.behind[low], self.behind[crate])
+
+    def minutes_left(self):
+        """Returns how many minutes the rest will take: what its longest chain takes, or all of it over all processors, whichever is more."""
+        running = {it.crate: time.monotonic() - it.since for it in self.running.values()}
+        left = {it: max(self.work[it] - running.get(it, 0.0), 0.0) for it in (*self.waiting, *running)}
+        chains = dict.fromkeys(left, 0.0)
+        for crate in reversed([it for it in self.crates if it in left]):
+            chains[crate] += left[crate]
+            for low in crate.own():
+                if low in chains:
+                    chains[low] = max(chains[low], chains[crate])
+        return max(sum(left.values()) / self.processors, *chains.values()) / 60 if left else 0.0
 
     def run(self):
         """Proves what isn't proved. Where a crate isn't, it ends the script."""
@@ -98,7 +123,7 @@ class Build:
         ready = [it for it in self.waiting if self.proved.issuperset(it.own())]
         ready.sort(key=lambda it: -self.behind[it])
         for at, crate in enumerate(ready):
-            need = 1000 + 2 * self.work[crate]
+            need = 1000 + 2 * self.lines[crate]
             if self.is_waited_for(crate):
                 share, jobs = 1, self.processors
             else:
@@ -110,7 +135,7 @@ class Build:
             jobs = min(jobs, 4)
             while jobs > 1 and need + 700 * (jobs - 1) > self.memory:
                 jobs -= 1
-            run = Run(crate, jobs, min(share, jobs), need + 700 * (jobs - 1))
+            run = Run(crate, jobs, min(share, jobs), need + 700 * (jobs - 1), time.monotonic())
             self.waiting.remove(crate)
             self.idle -= run.share
             self.memory -= run.need
@@ -144,9 +169,18 @@ class Build:
             sys.exit(1)
         with open(file_of(run.crate, "sum"), "w", encoding="utf-8") as it:
             it.write(self.sums[run.crate])
+        for kind, text in (("own", self.files[run.crate]), ("took", f"{time.monotonic() - run.since:.1f}")):
+            with open(file_of(run.crate, kind), "w", encoding="utf-8") as it:
+                it.write(text)
         self.proved.add(run.crate)
-        say(f"{name} is proved, {len(self.crates) - len(self.proved)} of {len(self.crates)} crates are left")
         self.begin_ready()
+        left = len(self.crates) - len(self.proved)
+        say(f"{name} is proved, {left} of {len(self.crates)} crates are left{in_minutes(self.minutes_left()) if left else ''}")
+
+
+def in_minutes(minutes):
+    """How long something takes, in words."""
+    return ", for less than a minute" if minutes < 1 else f", for some {minutes:.0f} minute{'s' if round(minutes) != 1 else ''}"
 
 
 @contextlib.contextmanager
@@ -165,7 +199,7 @@ def prove(crates, what):
             signal.signal(it, lambda *_: sys.exit(130))
     build = Build(crates)
     if build.waiting:
-        say(f"proving {what}: {len(build.waiting)} of {len(crates)} crates. This takes some minutes the first time, and less after an edit.")
+        say(f"proving {what}: {len(build.waiting)} of {len(crates)} crates{in_minutes(build.minutes_left())}: {', '.join(it.name for it in build.waiting)}")
     build.run()
 
 
@@ -174,6 +208,30 @@ def provide_below(crate):
     if not all(os.path.exists(it.made) for it in crate.below()):
         with alone():
             prove(crate.below(), f"what is below {crate.name}")
+
+
+def prove_changed(upper):
+    """Proves the crates that changed since they were last proved, lowest first, and what stands on them, as far up as is wanted: up to this crate,
+    or, where none is named, to the last that changed."""
+    build = Build([*upper.below(), upper] if upper else list(in_order(kit.crates().values())))
+    changed = [it for it in build.waiting if is_changed(it, build)]
+    if not changed:
+        say("nothing changed since it was proved")
+        return
+    say(f"changed: {', '.join(it.name for it in changed)}")
+    wanted = [*upper.below(), upper] if upper else in_order(changed)
+    with alone():
+        prove(wanted, "what changed" + (f" and what {upper.name} needs of it" if upper else ""))
+
+
+def is_changed(crate, build):
+    """Returns whether the crate's own files changed since it was proved, or it wasn't proved yet."""
+    return text_of(file_of(crate, "own")) != build.files[crate]
+
+
+def in_order(crates):
+    """Returns these crates and all that they stand on, each behind what it uses."""
+    return [*dict.fromkeys(it for crate in crates for it in (*crate.below(), crate))]
 
 
 def make(crate, program):

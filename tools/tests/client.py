@@ -7,10 +7,10 @@ import struct
 import sys
 import time
 
-sys.path.insert(0, str(pathlib.Path(__file__).resolve().parent.parent))
-from wayland_objects import Objects, cut  # pylint: disable=wrong-import-position
-from wayland_table import INTERFACES  # pylint: disable=wrong-import-position
-from wayland_wire import DISPLAY, message, spell  # pylint: disable=wrong-import-position
+sys.path.insert(0, str(pathlib.Path(__file__).resolve().parent.parent.parent / "python"))
+from wlframe.wayland.objects import Objects, cut  # pylint: disable=wrong-import-position
+from wlframe.wayland.table import INTERFACES  # pylint: disable=wrong-import-position
+from wlframe.wayland.wire import DISPLAY, message, spell  # pylint: disable=wrong-import-position
 
 PATIENCE = 60  # seconds that an answer may take
 TOP_LEFT, BOTTOM_RIGHT = (INTERFACES["xdg_positioner"].enums["anchor"].values[it] for it in ("top_left", "bottom_right"))
@@ -44,12 +44,15 @@ class Client:
         self.globals = {}  # by interface: name, version
         self.last = DISPLAY
         self.waiting, self.descriptors = b"", []
+        self.received = []  # the descriptors that came with events
 
     def __enter__(self):
         return self
 
     def __exit__(self, *_):
         self.socket.close()
+        while self.received:
+            os.close(self.received.pop())
 
     def new(self):
         self.last += 1
@@ -89,9 +92,10 @@ class Client:
 
     def receive(self):
         """Takes what has come as events. Gone where the connection is closed and nothing is left."""
-        data = self.socket.recv(65536)
+        data, descriptors, _, _ = socket.recv_fds(self.socket, 65536, 28)
         if not data:
             raise Gone
+        self.received += descriptors
         self.stream += data
         for each in cut(self.stream):
             said = self.objects.read(each, "events")
@@ -167,9 +171,7 @@ class Window(Shown):
         self.compositor = client.bind(self.registry, "wl_compositor", compositor_version)
         self.shm = client.bind(self.registry, "wl_shm", 1)
         self.base = client.bind(self.registry, "xdg_wm_base", 1)
-        self.memory = Memory(2 * self.size)
-        self.pool = client.send(self.shm, "create_pool", 2 * self.size, descriptor=self.memory.descriptor)
-        self.buffers = [client.put(self.pool, "create_buffer", at * self.size, width, height, 4 * width, 1) for at in (0, 1)]
+        self.make_buffers()
         self.surface = client.put(self.compositor, "create_surface")
         self.shell = client.put(self.base, "get_xdg_surface", self.surface)
         self.toplevel = client.put(self.shell, "get_toplevel")
@@ -181,21 +183,30 @@ class Window(Shown):
     def size(self):
         return 4 * self.width * self.height
 
+    def make_buffers(self):
+        """Makes a pool with two buffers of the window's size."""
+        self.memory = Memory(2 * self.size)
+        self.pool = self.client.send(self.shm, "create_pool", 2 * self.size, descriptor=self.memory.descriptor)
+        self.buffers = [self.client.put(self.pool, "create_buffer", at * self.size, self.width, self.height, 4 * self.width, 1) for at in (0, 1)]
+
     def draw(self, at, colour):
         """Draws all of one of the buffers."""
         self.memory.fill(at * self.size, self.width, self.height, colour)
 
 
 class Menu(Shown):
-    """A popup on a window, with the window's sides and buffers, at a point of the window. It isn't shown until a buffer is committed."""
+    """A popup on a window or another popup, with its sides and buffers, at a point of it; with a grab where a seat and a serial are given. It isn't shown
+    until a buffer is committed."""
 
-    def __init__(self, window, x, y):
+    def __init__(self, window, x, y, grab=None):
         self.client, self.width, self.height, self.buffers = window.client, window.width, window.height, window.buffers
-        client = self.client
+        client, self.registry, self.compositor = self.client, window.registry, window.compositor
         self.base = client.bind(window.registry, "xdg_wm_base", 3)
         self.surface = client.put(window.compositor, "create_surface")
         self.shell = client.put(self.base, "get_xdg_surface", self.surface)
         self.popup = client.put(self.shell, "get_popup", window.shell, self.place(x, y))
+        if grab:
+            client.put(self.popup, "grab", *grab)
         client.send(self.surface, "commit")
         self.acknowledge()
 

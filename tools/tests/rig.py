@@ -15,7 +15,10 @@ import time
 
 TOOLS = pathlib.Path(__file__).resolve().parent.parent
 BRIDGE = TOOLS / "bridge"
-sys.path.insert(0, str(TOOLS))  # where the modules of the tools are
+sys.path.insert(0, str(TOOLS.parent / "python"))  # where the package is
+
+from wlframe.viewer import Viewer  # pylint: disable=wrong-import-position
+
 RATE = 250  # turns a second, where the program can keep to a rate
 TURNS = 1_000_000  # else as many as there can be
 PATIENCE = 60  # seconds
@@ -39,10 +42,15 @@ def program():
     return path.resolve()
 
 
-@functools.cache
 def has_rate():
     """Whether the program can keep to a rate."""
-    return "--rate" in subprocess.run([program(), "serve", "--help"], capture_output=True, text=True, check=True).stdout
+    return has_option("--rate")
+
+
+@functools.cache
+def has_option(option):
+    """Whether the program can be started with this option."""
+    return option in subprocess.run([program(), "serve", "--help"], capture_output=True, text=True, check=True).stdout
 
 
 def end_with_parent():
@@ -73,9 +81,9 @@ def wait_for(what, why):
 class Rig:
     """A folder with a server's socket `server`, a bridge's `wayland`, the folder `pools`, the report and the frames; and what the pointer does."""
 
-    def __init__(self, *options, size="64x48", pointer="", server=True, bridge=True):
-        self.options, self.size, self.pointer, self.begins = options, size, pointer, (server, bridge)
-        self.server = self.bridge = None
+    def __init__(self, *options, size="64x48", pointer="", server=True, bridge=True, viewer=False):
+        self.options, self.size, self.pointer, self.begins, self.has_viewer = options, size, pointer, (server, bridge), viewer
+        self.server = self.bridge = self.viewer = None
 
     def __enter__(self):
         self.stack = contextlib.ExitStack()
@@ -93,6 +101,8 @@ class Rig:
         return self
 
     def __exit__(self, *_):
+        if self.viewer is not None:
+            self.viewer.socket.close()
         for process in (self.bridge, self.server):
             if process is not None and process.poll() is None:
                 process.kill()
@@ -103,6 +113,7 @@ class Rig:
         report = self.stack.enter_context(open(self.room / "report", "w", encoding="ascii"))
         words = ["serve", "--socket", "server", "--dir", folder, "--size", self.size, "--ppm", "frames.ppm"]
         words += ["--rate", str(RATE)] if has_rate() and not turns else ["--turns", str(turns or TURNS)]
+        words += ["--viewer", "viewer"] if self.has_viewer else []
         if self.pointer:
             (self.room / "pointer").write_text(self.pointer, encoding="ascii")
             words += ["--pointer", "pointer"]
@@ -148,6 +159,19 @@ class Rig:
     def ends(self):
         """How many clients the report tells to have ended."""
         return sum(it.startswith("end ") for it in (self.room / "report").read_text(encoding="ascii").splitlines())
+
+    def settle(self):
+        """Waits until a tick has shown what was asked of the server before. The rig has to have a viewer."""
+        if self.viewer is None:
+            self.viewer = Viewer(self.room / "viewer")
+        number = self.viewer.synced.number + 1
+        self.viewer.send(f"sync {number}")
+
+        def is_synced():
+            self.viewer.take()
+            return self.viewer.synced.number == number
+
+        wait_for(is_synced, "the server answers no viewer")
 
     def frame(self, number):
         """Waits for the frame of this number, from 1, and answers how many points of it were damaged and its pixels, rows of 0xrrggbb."""

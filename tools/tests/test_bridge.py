@@ -12,10 +12,11 @@ import unittest
 sys.path.insert(0, str(pathlib.Path(__file__).resolve().parent))
 from client import Client, Memory, Menu, Window  # pylint: disable=wrong-import-position
 from rig import TOOLS, Rig, wait_for  # pylint: disable=wrong-import-position
-from wayland_table import GLOBALS, INTERFACES  # pylint: disable=wrong-import-position
-from wayland_wire import DISPLAY, message, spell  # pylint: disable=wrong-import-position
-import bridge_refusals  # pylint: disable=wrong-import-position
-import bridge_rewrites  # pylint: disable=wrong-import-position
+from wlframe.wayland.table import GLOBALS, INTERFACES  # pylint: disable=wrong-import-position
+from wlframe.wayland.wire import DISPLAY, message, spell  # pylint: disable=wrong-import-position
+from wlframe.bridge import refusals  # pylint: disable=wrong-import-position
+from wlframe.bridge import rewrites  # pylint: disable=wrong-import-position
+from wlframe.bridge.own import FIRST_NAME, OWN  # pylint: disable=wrong-import-position
 
 RED, GREEN, BLUE, BLACK = 0xFF0000, 0x00FF00, 0x0000FF, 0
 OPAQUE = 0xFF000000
@@ -42,7 +43,8 @@ class Shown(WithRig):
         client.begin()
         versions = {name: version for name, (_, version) in client.globals.items()}
         offered = {name: INTERFACES[name].version for name in GLOBALS}
-        self.assertEqual(versions, {**offered, "wl_output": 3, "wl_seat": 7, "wl_data_device_manager": 3})
+        own = {it.interface: it.version for it in OWN if it.needs != "viewer"}
+        self.assertEqual(versions, {**offered, "wl_output": 3, "wl_seat": 7, **own})
 
     def events_of(self, interface, version):
         client = self.client()
@@ -51,8 +53,8 @@ class Shown(WithRig):
         return [it for it in client.take() if f"#{bound}." in it]
 
     def test_seat(self):
-        self.assertEqual(self.events_of("wl_seat", 7), ["wl_seat#4.capabilities(pointer)", 'wl_seat#4.name("seat0")'])
-        self.assertEqual(self.events_of("wl_seat", 1), ["wl_seat#4.capabilities(pointer)"])
+        self.assertEqual(self.events_of("wl_seat", 7), ["wl_seat#4.capabilities(pointer+keyboard)", 'wl_seat#4.name("seat0")'])
+        self.assertEqual(self.events_of("wl_seat", 1), ["wl_seat#4.capabilities(pointer+keyboard)"])
 
     def test_output(self):
         first = ['wl_output#4.geometry(0, 0, 0, 0, unknown, "wlframe", "framebuffer", normal)', "wl_output#4.mode(current+preferred, 64, 48, 0)"]
@@ -104,32 +106,32 @@ class Shown(WithRig):
         client.round_trip()
         self.assertFalse([it for it in client.take() if "error" in it or "wl_pointer" in it])
 
-    def test_keyboard_is_refused(self):
+    def test_touch_is_refused(self):
         client = self.client()
-        client.send(client.bind(client.begin(), "wl_seat", 5), "get_keyboard")
+        client.send(client.bind(client.begin(), "wl_seat", 5), "get_touch")
         self.assertIn("0 missing_capability", client.error())
 
 
-class Windows(WithRig):
-    """What is seen of windows. Each test has a client with one window, which shows its second buffer, all black; the others' are gone."""
+class WithWindow(WithRig):
+    """Tests of windows. Each has a client with one window, which shows its second buffer, all black; the others' are gone."""
 
     size, windows = "300x300", 0
 
     def setUp(self):
         frames = len(self.rig.frames())
-        self.place = 32 * (Windows.windows % 8)  # where the server puts it
-        Windows.windows += 1
+        self.place = 32 * (self.windows % 8)  # where the server puts it
+        type(self).windows += 1
         self.client = Client(self.rig.wayland)
         self.addCleanup(self.leave)
         self.window = Window(self.client, 20, 10)
         self.window.show(1)
         self.first = frames + 1
         self.rig.frame(self.first)
-        self.files = f"{1 + Windows.windows}."  # the bridge's own connection was the first
+        self.files = f"{1 + self.windows}."  # the bridge's own connection was the first
 
     def leave(self):
         self.client.socket.close()
-        wait_for(lambda: self.rig.ends() == 1 + Windows.windows, "the server doesn't end the client")
+        wait_for(lambda: self.rig.ends() == 1 + self.windows, "the server doesn't end the client")
 
     def expect(self, number, damaged, colours):
         """The frame of this number, from 1, has so many damaged points, and these colours, by points of the window."""
@@ -137,9 +139,9 @@ class Windows(WithRig):
         self.assertEqual(found, damaged)
         self.assertEqual({(x, y): picture[self.place + y][self.place + x] for x, y in colours}, colours)
 
-    def stored(self, number=1):
-        """What the server is given of a pool."""
-        return (self.rig.pools / f"{self.files}{number}").read_bytes()
+
+class Windows(WithWindow):
+    """What is seen of windows."""
 
     def test_window(self):
         window = self.window
@@ -203,6 +205,73 @@ class Windows(WithRig):
         self.client.send(window.surface, "commit")
         self.expect(2, 200, {(0, 0): RED})
 
+    def test_pool_that_grows(self):
+        window = self.window
+        window.show(0)
+        os.ftruncate(window.memory.descriptor, 2400)
+        os.pwrite(window.memory.descriptor, struct.pack("<I", OPAQUE | GREEN) * 200, 1600)
+        self.client.send(window.pool, "resize", 2400)
+        window.buffers.append(self.client.send(window.pool, "create_buffer", 1600, 20, 10, 80, 1))
+        window.show(2)
+        self.expect(2, 200, {(0, 0): GREEN, (19, 9): GREEN})
+
+    def test_memory_that_is_shorter_than_its_pool(self):
+        window = self.window
+        memory = Memory(40)
+        pool = self.client.send(window.shm, "create_pool", 800, descriptor=memory.descriptor)
+        window.buffers.append(self.client.send(pool, "create_buffer", 0, 20, 10, 80, 1))
+        memory.fill(0, 10, 1, OPAQUE | GREEN)
+        window.show(2)
+        self.expect(1, 200, {(9, 0): GREEN, (10, 0): BLACK})
+
+    def test_rows_with_room_between(self):
+        window = self.window
+        buffer = self.client.send(window.pool, "create_buffer", 40, 5, 10, 80, 1)
+        window.draw(0, OPAQUE | RED)
+        window.buffers.append(buffer)
+        window.show(2, "damage", (0, 0, 5, 10))
+        self.expect(1, 200, {(4, 9): RED, (5, 9): BLACK})  # what it leaves is painted too
+
+    def test_large_pool(self):
+        begin = 100 << 20  # of a pool of 512 MB, which the server would refuse
+        memory = Memory(512 << 20)
+        pool = self.client.send(self.window.shm, "create_pool", 512 << 20, descriptor=memory.descriptor)
+        memory.fill(begin, 20, 10, OPAQUE | BLUE)
+        buffer = self.client.send(pool, "create_buffer", begin, 20, 10, 80, 1)
+        self.window.buffers.append(buffer)
+        self.window.show(2)
+        self.expect(1, 200, {(0, 0): BLUE, (19, 9): BLUE})
+        memory.fill(begin, 20, 10, OPAQUE | GREEN)
+        self.window.show(2)
+        self.expect(2, 200, {(0, 0): GREEN, (19, 9): GREEN})
+        for each in (buffer, pool):
+            self.client.take()
+            self.client.send(each, "destroy")
+            self.client.round_trip()
+            self.assertEqual([it for it in self.client.take() if "delete_id" in it][0], f"wl_display#1.delete_id({each})")
+            # its surface goes on showing what it was
+            memory.fill(begin, 20, 10, OPAQUE | RED)
+            self.client.put(self.window.surface, "damage", 0, 0, 20, 10)
+            self.client.send(self.window.surface, "commit")
+            self.client.round_trip()
+        self.expect(4, 200, {(0, 0): GREEN, (19, 9): GREEN})
+
+    def test_buffer_outside_of_a_large_pool(self):
+        size = 128 << 20
+        pool = self.client.send(self.window.shm, "create_pool", size, descriptor=Memory(size).descriptor)
+        self.client.send(pool, "create_buffer", size - 799, 20, 10, 80, 1)
+        self.assertIn(f"error(wl_shm_pool#{pool}, 1 invalid_stride", self.client.error())
+
+
+class Copies(WithWindow):
+    """What the server is given where all is copied."""
+
+    options = ("--whole",)
+
+    def stored(self, number=1):
+        """What the server is given of a pool."""
+        return (self.rig.pools / f"{self.files}{number}").read_bytes()
+
     def test_only_what_is_committed_is_copied(self):
         window = self.window
         window.draw(0, OPAQUE | RED)
@@ -231,35 +300,7 @@ class Windows(WithRig):
         self.client.round_trip()
         self.assertFalse((self.rig.pools / f"{self.files}1").exists())
 
-    def test_pool_that_grows(self):
-        window = self.window
-        window.show(0)
-        os.ftruncate(window.memory.descriptor, 2400)
-        os.pwrite(window.memory.descriptor, struct.pack("<I", OPAQUE | GREEN) * 200, 1600)
-        self.client.send(window.pool, "resize", 2400)
-        window.buffers.append(self.client.send(window.pool, "create_buffer", 1600, 20, 10, 80, 1))
-        window.show(2)
-        self.expect(2, 200, {(0, 0): GREEN, (19, 9): GREEN})
-
-    def test_memory_that_is_shorter_than_its_pool(self):
-        window = self.window
-        memory = Memory(40)
-        pool = self.client.send(window.shm, "create_pool", 800, descriptor=memory.descriptor)
-        window.buffers.append(self.client.send(pool, "create_buffer", 0, 20, 10, 80, 1))
-        memory.fill(0, 10, 1, OPAQUE | GREEN)
-        window.show(2)
-        self.expect(1, 200, {(9, 0): GREEN, (10, 0): BLACK})
-
-    def test_rows_with_room_between(self):
-        window = self.window
-        buffer = self.client.send(window.pool, "create_buffer", 40, 5, 10, 80, 1)
-        window.draw(0, OPAQUE | RED)
-        window.buffers.append(buffer)
-        window.show(2, "damage", (0, 0, 5, 10))
-        self.expect(1, 200, {(4, 9): RED, (5, 9): BLACK})  # what it leaves is painted too
-
-
-    def test_large_pool(self):
+    def test_large_pool_is_copied_by_buffers(self):
         begin = 100 << 20  # of a pool of 512 MB, which the server would refuse
         memory = Memory(512 << 20)
         pool = self.client.send(self.window.shm, "create_pool", 512 << 20, descriptor=memory.descriptor)
@@ -267,29 +308,23 @@ class Windows(WithRig):
         buffer = self.client.send(pool, "create_buffer", begin, 20, 10, 80, 1)
         self.window.buffers.append(buffer)
         self.window.show(2)
-        self.expect(1, 200, {(0, 0): BLUE, (19, 9): BLUE})
         self.assertEqual(self.stored(2), struct.pack("<I", OPAQUE | BLUE) * 200)
-        memory.fill(begin, 20, 10, OPAQUE | GREEN)
-        self.window.show(2)
-        self.expect(2, 200, {(0, 0): GREEN, (19, 9): GREEN})
         for each in (buffer, pool):
-            self.client.take()
             self.client.send(each, "destroy")
             self.client.round_trip()
-            self.assertEqual([it for it in self.client.take() if "delete_id" in it][0], f"wl_display#1.delete_id({each})")
             self.assertFalse((self.rig.pools / f"{self.files}2").exists())
-            # its surface goes on showing what it was
-            memory.fill(begin, 20, 10, OPAQUE | RED)
-            self.client.put(self.window.surface, "damage", 0, 0, 20, 10)
-            self.client.send(self.window.surface, "commit")
-            self.client.round_trip()
-        self.expect(4, 200, {(0, 0): GREEN, (19, 9): GREEN})
 
-    def test_buffer_outside_of_a_large_pool(self):
-        size = 128 << 20
-        pool = self.client.send(self.window.shm, "create_pool", size, descriptor=Memory(size).descriptor)
-        self.client.send(pool, "create_buffer", size - 799, 20, 10, 80, 1)
-        self.assertIn(f"error(wl_shm_pool#{pool}, 1 invalid_stride", self.client.error())
+    def test_each_pool_has_its_descriptor(self):
+        sizes = [4 * (1 + at) for at in range(20)]
+        for size in sizes:
+            self.client.put(self.window.shm, "create_pool", size, descriptor=Memory(size).descriptor)
+        self.client.flush()
+        self.client.round_trip()
+        self.assertEqual([len(self.stored(2 + at)) for at in range(20)], sizes)
+
+    def test_files_are_for_their_user_alone(self):
+        self.assertEqual((self.rig.pools / f"{self.files}1").stat().st_mode & 0o777, 0o600)
+        self.assertFalse((self.rig.pools / f"{self.files}1").is_symlink())
 
 
 class Pointed(WithRig):
@@ -392,7 +427,7 @@ def random_value(argument, client, chance):
         case "int":
             return chance.choice([0, 1, 4, 64, 4096, -1, 0x7FFFFFFF])
         case "uint":
-            return chance.choice([0, 1, 2, 4, 6, bridge_rewrites.OWN_NAME, 0xFFFFFFFF])
+            return chance.choice([0, 1, 2, 4, 6, FIRST_NAME + chance.randrange(8), 0xFFFFFFFF])
 
 
 def put_random(client, chance):
@@ -427,13 +462,11 @@ class Streams(WithRig):
         client = self.client()
         registry = client.begin()
         shm = client.bind(registry, "wl_shm", 1)
-        sizes = [4 * (1 + at) for at in range(20)]
-        for size in sizes:
-            client.put(shm, "create_pool", size, descriptor=Memory(size).descriptor)
+        for at in range(20):
+            client.put(shm, "create_pool", 4 * (1 + at), descriptor=Memory(4 * (1 + at)).descriptor)
         client.flush()
         client.round_trip()
-        number = max(int(it.name.split(".")[0]) for it in self.rig.pools.iterdir())
-        self.assertEqual([(self.rig.pools / f"{number}.{1 + at}").stat().st_size for at in range(20)], sizes)
+        self.assertFalse([it for it in client.take() if "error" in it])
 
     def test_several_clients(self):
         answered = []
@@ -616,6 +649,15 @@ class Fullscreen(WithRig):
         damaged, picture = self.rig.frame(1)
         self.assertEqual((damaged, picture[31][95]), (96 * 32, RED))
 
+    def test_each_is_at_the_corner(self):
+        for colour in range(1, 11):
+            window = Window(self.client(), 96, 32)
+            window.draw(0, OPAQUE | colour)
+            before = len(self.rig.frames())
+            window.show(0)
+            _, picture = self.rig.frame(before + 1)
+            self.assertEqual((picture[0][0], picture[31][95]), (colour, colour))
+
 
 class States(WithRig):
     """Toplevels that ask for the whole output."""
@@ -636,25 +678,37 @@ class States(WithRig):
             client.until("xdg_surface.configure")
             self.assertIn(f"xdg_toplevel#{window.toplevel}.configure({told})", client.take())
 
+    def test_place(self):
+        """One that asks before it is mapped is shown at the output's corner, and others where the server shows them."""
+        for colour, asks, sides, seen in ((1, False, (4, 4), (0, 3)), (2, False, (4, 4), (32, 35)), (3, True, (64, 48), (0, 47))):
+            window = Window(self.client(), *sides)
+            if asks:
+                window.client.send(window.toplevel, "set_fullscreen", 0)
+            window.draw(0, OPAQUE | colour)
+            before = len(self.rig.frames())
+            window.show(0)
+            _, picture = self.rig.frame(before + 1)
+            self.assertEqual([picture[it][it] for it in seen], [colour, colour])
+
 
 class Told(WithRig):
     """What stands in the files that a bridge is asked to write."""
 
-    options = ("--log", "log", "--trace", "trace")
+    options = ("--log", "log", "--trace", "trace", "--no-keyboard")
 
     def test_log_and_trace(self):
         with Client(self.rig.wayland) as client:
             client.bind(client.begin(), "wl_seat", 5)
             client.round_trip()
         with Client(self.rig.wayland) as client:
-            client.send(client.bind(client.begin(), "wl_seat", 5), "get_keyboard")
+            client.send(client.bind(client.begin(), "wl_seat", 5), "get_touch")
             client.error()
         self.assertEqual(self.rig.end(), 0)
         log = (self.rig.room / "log").read_text(encoding="utf-8").splitlines()
         self.assertEqual([it for it in log if it.startswith("2 ")], ["2 binds wl_seat 5", "2 ended gone"])
         binds, refused, ended = [it for it in log if it.startswith("3 ")]
         self.assertEqual((binds, ended), ("3 binds wl_seat 5", "3 ended refused"))
-        self.assertRegex(refused, r"^3 refused: was refused wl_seat#4\.get_keyboard\(id new wl_keyboard#5\), at version 5 \(1 for the server\)")
+        self.assertRegex(refused, r"^3 refused: was refused wl_seat#4\.get_touch\(id new wl_touch#5\), at version 5 \(1 for the server\)")
         trace = (self.rig.room / "trace").read_text(encoding="utf-8").splitlines()
         at = trace.index("client 2 -> wl_registry#2.bind(5, new wl_seat#4 of version 5)")
         self.assertEqual(trace[at + 1], "client 2    passed on as: wl_registry#2.bind(5, new wl_seat#4 of version 1)")
@@ -666,13 +720,13 @@ class Table(unittest.TestCase):
 
     def test_docs_have_the_rewritings(self):
         text = (TOOLS.parent / "docs" / "BRIDGE.md").read_text(encoding="utf-8")
-        self.assertIn(bridge_rewrites.in_markdown(), text)
+        self.assertIn(rewrites.in_markdown(), text)
 
     def test_rewritings_and_causes_name_messages(self):
-        for each in bridge_rewrites.REWRITINGS:
+        for each in rewrites.REWRITINGS:
             interface, name = each.of.split(".")
             self.assertIsNotNone(INTERFACES[interface].named(name) if each.kind == "request" else INTERFACES[interface].event_named(name), each.of)
-        for (interface, error), causes in bridge_refusals.CAUSES.items():
+        for (interface, error), causes in refusals.CAUSES.items():
             enums = INTERFACES["wl_shm" if interface == "wl_shm_pool" else interface].enums
             self.assertIn(error, enums["error"].values)
             for cause in causes.split():

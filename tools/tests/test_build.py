@@ -90,8 +90,9 @@ class Builds(unittest.TestCase):
     def test_from_nothing(self):
         done = self.call("one", "two")
         self.expect(done, ["build low", "build mid", "build wlframe"], out="first one two\n")
-        says = ["proving and building the program: 3 of 3 crates. This takes some minutes the first time, and less after an edit."]
-        says += [f"{name} is proved, {left} of 3 crates are left" for name, left in (("low", 2), ("mid", 1), ("wlframe", 0))]
+        soon = ", for less than a minute"
+        says = [f"proving and building the program: 3 of 3 crates{soon}: low, mid, wlframe"]
+        says += [f"{name} is proved, {left} of 3 crates are left{soon if left else ''}" for name, left in (("low", 2), ("mid", 1), ("wlframe", 0))]
         self.assertEqual(done.stderr.splitlines(), [f"wlframe: {it}" for it in says])
         self.expect(self.call(), [], out="first\n")
 
@@ -162,9 +163,33 @@ class Builds(unittest.TestCase):
         self.assertEqual(self.call("high", script="tools/check").returncode, 2)
         done = self.call("mid", script="tools/check")
         self.expect(done, ["build low", "check mid"], out="reading\nlogic=proved functions=1\n")
-        self.assertIn("tools/check: proving what is below mid: 1 of 1 crates.", done.stderr)
+        self.assertIn("tools/check: proving what is below mid: 1 of 1 crates, for less than a minute: low", done.stderr)
         self.put("crates/low/src/lib.rt", "// low, changed\n")
         self.expect(self.call("mid", "--test", script="tools/check"), ["check mid"], out="reading\nlogic=proved functions=1\n")
+
+    def test_what_changed_is_checked(self):
+        self.all_built()
+        self.assertEqual(self.call("--changed", "high", script="tools/check").returncode, 2)
+        self.assertEqual(self.call("--changed", "mid", "more", script="tools/check").returncode, 2)
+        done = self.call("--changed", script="tools/check")
+        self.expect(done, [])
+        self.assertEqual(done.stderr, "tools/check: nothing changed since it was proved\n")
+        self.put("crates/low/src/lib.rt", "// low, changed\n")
+        done = self.call("--changed", script="tools/check")
+        self.expect(done, ["build low"])
+        self.assertEqual(done.stderr.splitlines()[:2], ["tools/check: changed: low", "tools/check: proving what changed: 1 of 1 crates, for less than a minute: low"])
+        self.put("crates/low/src/lib.rt", "// low, changed again\n")
+        done = self.call("--changed", "mid", script="tools/check")
+        self.expect(done, ["build low", "build mid"])
+        self.assertIn("proving what changed and what mid needs of it: 2 of 2 crates", done.stderr)
+
+    def test_how_long_it_took_is_told(self):
+        self.all_built()
+        (self.kept / "mid.took").write_text("150", encoding="ascii")
+        self.put("crates/mid/src/lib.rt", "// mid, changed\n")
+        done = self.call("--changed", script="tools/check")
+        self.assertIn("proving what changed: 1 of 2 crates, for some 2 minutes: mid", done.stderr)
+        self.assertLess(float((self.kept / "mid.took").read_text(encoding="ascii")), 60)
 
 
 if __name__ == "__main__":

@@ -13,7 +13,7 @@ from rig import TOOLS, program  # pylint: disable=wrong-import-position
 
 def load():
     """The command as a module."""
-    loader = importlib.machinery.SourceFileLoader("clients", str(TOOLS / "clients"))
+    loader = importlib.machinery.SourceFileLoader("clients", str(TOOLS.parent / "python" / "wlframe" / "commands" / "clients.py"))
     made = importlib.util.module_from_spec(importlib.util.spec_from_loader("clients", loader))
     loader.exec_module(made)
     return made

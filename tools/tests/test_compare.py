@@ -8,9 +8,9 @@ import unittest
 import zlib
 
 HERE = pathlib.Path(__file__).resolve().parent
-sys.path[:0] = [str(HERE), str(HERE.parent)]
-import pictures  # pylint: disable=wrong-import-position
-from pictures import Picture  # pylint: disable=wrong-import-position
+sys.path[:0] = [str(HERE), str(HERE.parent.parent / "python")]
+from wlframe import pictures  # pylint: disable=wrong-import-position
+from wlframe.pictures import Picture  # pylint: disable=wrong-import-position
 
 COMPARE = HERE.parent / "compare"
 WHITE, BLACK = b"\xff" * 3, b"\0" * 3
@@ -65,6 +65,18 @@ class Compares(unittest.TestCase):
         self.assertEqual(self.compare("a.png", "b.png", "--tolerance", "15"), (1, said, ""))
         self.assertEqual(self.compare("a.png", "b.png", "--tolerance", "14")[1][:44], "a.png b.png: frame 1 differs at 2 of 12 pixe")
         self.assertEqual(self.compare("a.png", "b.png", "--tolerance", "255"), (0, "", ""))
+
+    def test_masks_and_permitted_pixels(self):
+        self.put("a.png", self.white)
+        self.put("b.png", self.dotted)
+        self.assertEqual(self.compare("a.png", "b.png", "--max-pixels", "2"), (0, "", ""))
+        self.assertEqual(self.compare("a.png", "b.png", "--max-pixels", "1")[0], 1)
+        self.assertEqual(self.compare("a.png", "b.png", "--mask", "2,1,1,1", "--mask", "0,2,2,1"), (0, "", ""))
+        said = "a.png b.png: frame 1 differs at 1 of 12 pixels, first at 2,1, which is ffffff in the one and fff0ff in the other\n"
+        self.assertEqual(self.compare("a.png", "b.png", "--mask", "0,2,2,1"), (1, said, ""))
+        status, _, wrong = self.compare("a.png", "b.png", "--mask", "0,2,2")
+        self.assertEqual(status, 2)
+        self.assertIn("argument --mask: 0,2,2: a box is X,Y,W,H, as 10,20,100,30", wrong)
 
     def test_picture_of_the_difference(self):
         self.put("a.png", self.white)

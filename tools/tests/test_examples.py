@@ -8,7 +8,7 @@ import unittest
 
 sys.path.insert(0, str(pathlib.Path(__file__).resolve().parent))
 from rig import TOOLS, program  # pylint: disable=wrong-import-position
-from pictures import read  # pylint: disable=wrong-import-position
+from wlframe.pictures import read  # pylint: disable=wrong-import-position
 
 EXAMPLES = TOOLS.parent / "examples"
 

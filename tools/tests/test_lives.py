@@ -82,7 +82,7 @@ class Lives(unittest.TestCase):
     def test_signals(self):
         for number in (signal.SIGTERM, signal.SIGINT):
             with self.subTest(number.name):
-                rig = self.rig()
+                rig = self.rig("--whole")
                 with Client(rig.wayland) as client:
                     window = Window(client, 8, 8)
                     window.show(0)
@@ -122,7 +122,7 @@ class Lives(unittest.TestCase):
 
     def test_disk_that_is_full(self):
         rig = self.rig(bridge=False)
-        rig.start_bridge(preexec_fn=lambda: resource.setrlimit(resource.RLIMIT_FSIZE, (1000, 1000)))
+        rig.start_bridge("--whole", preexec_fn=lambda: resource.setrlimit(resource.RLIMIT_FSIZE, (1000, 1000)))
         with Client(rig.wayland) as client:
             with self.assertRaises((Gone, ConnectionError)):
                 Window(client, 20, 20)

@@ -1,4 +1,4 @@
-"""tools/run over the real program: pictures, frames, films and reports; how a run ends; what it says where something fails."""
+"""tools/run over the real program: pictures, frames and reports; how a run ends; what it says where something fails. test_films has its films."""
 import contextlib
 import os
 import pathlib
@@ -12,8 +12,8 @@ import tempfile
 import unittest
 
 HERE = pathlib.Path(__file__).resolve().parent
-sys.path[:0] = [str(HERE), str(HERE.parent)]
-import pictures  # pylint: disable=wrong-import-position
+sys.path[:0] = [str(HERE), str(HERE.parent.parent / "python")]
+from wlframe import pictures  # pylint: disable=wrong-import-position
 from rig import TOOLS, program, wait_for  # pylint: disable=wrong-import-position
 
 RED, GREEN, BLUE, BLACK = bytes.fromhex("ff0000"), bytes.fromhex("00ff00"), bytes.fromhex("0000ff"), b"\0\0\0"
@@ -36,17 +36,22 @@ def expected(colour):
     return pictures.Picture(*OUTPUT, row * WINDOW[1] + BLACK * OUTPUT[0] * (OUTPUT[1] - WINDOW[1]))
 
 
-def children(process):
-    """The numbers of the processes that a process started."""
-    found = []
+def below(process):
+    """The numbers of the processes that a process started, and that these started."""
+    parents = {}
     for path in pathlib.Path("/proc").glob("[0-9]*/stat"):
         with contextlib.suppress(OSError):
-            if path.read_text(errors="replace").rpartition(")")[2].split()[1] == str(process):
-                found.append(path.parent.name)
+            parents[path.parent.name] = path.read_text(errors="replace").rpartition(")")[2].split()[1]
+    found, more = [], [str(process)]
+    while more:
+        more = [it for it, parent in parents.items() if parent in more]
+        found += more
     return found
 
 
-class Runs(unittest.TestCase):
+class Tool(unittest.TestCase):
+    """tools/run in a folder of its own."""
+
     def setUp(self):
         self.room = pathlib.Path(self.enterContext(tempfile.TemporaryDirectory()))
         self.own = self.room / "own"  # where tools/run makes its folder
@@ -81,6 +86,8 @@ class Runs(unittest.TestCase):
         """It ended with this status, and its last line is this."""
         self.assertEqual((done.returncode, done.stderr.splitlines()[-1:]), (status, [text]))
 
+
+class Runs(Tool):
     def test_last_frame_of_one_that_leaves(self):
         done = self.paint("--png", "shot.png", painter=["ff0000", "00ff00"])
         self.assertEqual((done.returncode, done.stderr), (0, ""))
@@ -106,23 +113,6 @@ class Runs(unittest.TestCase):
         lines = [it.split() for it in (self.room / "report").read_text().splitlines()]
         self.assertEqual([it[2] for it in lines if it[0] == "frame"][:3], 3 * [str(WINDOW[0] * WINDOW[1])])
         self.assertIn(["end", "1", "gone"], lines)
-
-    def test_film(self):
-        """A stand-in for ffmpeg keeps its words and what it is sent."""
-        coder = self.room / "ffmpeg"
-        coder.write_text(f'#!/bin/sh\necho "$*" > {self.room}/words\ncat > {self.room}/sent\n')
-        coder.chmod(0o755)
-        way = {"PATH": f"{self.room}:{os.environ['PATH']}"}
-        done = self.paint("--film", "film.mp4", "--seconds", "4", painter=["--then", "wait", "ff0000"], environment=way)
-        self.assertEqual((done.returncode, done.stderr), (124, ""))
-        self.assertIn("-f rawvideo -pix_fmt rgb24 -s 64x48 -framerate 30 -i -", (self.room / "words").read_text())
-        sent, one = (self.room / "sent").read_bytes(), expected(RED).pixels
-        self.assertGreaterEqual(len(sent) // len(one), 2)
-        self.assertEqual(sent, one * (len(sent) // len(one)))
-
-    def test_missing_ffmpeg(self):
-        done = self.paint("--film", "film.mp4", environment={"PATH": str(self.own)})
-        self.expect(done, 125, "run: --film needs ffmpeg, which isn't installed (Debian: apt-get install ffmpeg); --frames writes pictures without it")
 
     def test_fullscreen(self):
         done = self.paint("--fullscreen", painter=["ff0000"])
@@ -176,18 +166,62 @@ class Runs(unittest.TestCase):
         self.assertIn("wlframe: bind failed", done.stderr)
         self.expect(done, 125, "run: the server didn't start: it ended with status 1, and what it said stands above")
 
-    def test_rate(self):
-        """A program that tells of --rate is asked for 60 turns a second; one that doesn't isn't."""
-        for told, rate in [("--rate HZ", [" --rate 60"]), ("--turns N", [])]:
-            path = self.room / "stand-in"
-            path.write_text(
-                f'#!/bin/sh\ncase "$*" in *--help*) echo "{told}"; exit;; esac\necho "$*" > {self.room}/words\n'
-                f'exec {program()} $(echo "$*" | sed "s/ --rate 60//")\n'
-            )
-            path.chmod(0o755)
-            done = self.paint("--png", "shot.png", painter=["ff0000"], environment={"WLFRAME": str(path)})
-            self.assertEqual((done.returncode, done.stderr), (0, ""))
-            self.assertEqual(re.findall(" --rate [0-9]+", (self.room / "words").read_text()), rate)
+    def test_program_without_a_viewer(self):
+        path = self.room / "old"
+        path.write_text("#!/bin/sh\necho --turns N\n")
+        path.chmod(0o755)
+        done = self.paint(environment={"WLFRAME": str(path)})
+        self.expect(done, 125, f"run: {path} has no --viewer, by which it is seen what a client shows: build the program anew, or name a later one")
+
+    def test_words_of_the_server(self):
+        """It is asked for 60 turns a second, for the default size that fits most windows, and for what the user asked."""
+        path = self.room / "stand-in"
+        path.write_text(f'#!/bin/sh\ncase "$*" in *--help*) exec {program()} "$@";; esac\necho "$*" > {self.room}/words\nexit 1\n')
+        path.chmod(0o755)
+        words = [sys.executable, TOOLS / "run", "--", "true"]
+        subprocess.run(words, env=self.environment(WLFRAME=str(path)), capture_output=True, check=False, timeout=PATIENCE)
+        self.assertIn(" --size 1024x768 --rate 60", (self.room / "words").read_text())
+
+    def test_idle_limit(self):
+        """One that never rests is ended with a status of its own, but where what changes is ignored."""
+        lamp = [sys.executable, HERE / "lamp.py", "--blink", "2,3,4,5"]
+        done = self.run_tool("--until-idle", "20000", "--idle-limit", "6", "--png", "shot.png", client=lamp)
+        self.expect(done, 123, f"run: {sys.executable} wasn't idle for 20000 milliseconds within 6 seconds")
+        self.assertEqual(read(self.room / "shot.png").pixel(0, 0), (0, 0, 128))
+        done = self.run_tool("--until-idle", "300", "--idle-limit", "60", "--ignore", "2,3,4,5", client=lamp)
+        self.assertEqual((done.returncode, done.stderr), (0, ""))
+        done = self.run_tool("--until-idle", "300", "--idle-limit", "0.5", client=["sleep", "1000"])
+        self.expect(done, 123, "run: sleep showed nothing within 0.5 seconds")
+
+    def test_crop(self):
+        lamp = [sys.executable, HERE / "lamp.py", "--geometry", "4,3,20,10"]
+        done = self.run_tool("--until-idle", "500", "--crop", "--png", "shot.png", client=lamp)
+        self.assertEqual((done.returncode, done.stderr), (0, ""))
+        self.assertEqual(read(self.room / "shot.png"), pictures.Picture(20, 10, bytes((0, 0, 128)) * 200))
+
+    def test_words_that_are_for_others(self):
+        for option, needs in (("--crop", "--png"), ("--idle-limit=3", "--until-idle"), ("--ignore=1,2,3,4", "--until-idle")):
+            self.expect(self.paint(option), 125, f"run: {option.partition('=')[0]} is for {needs}, which isn't given; --help tells more")
+        done = self.paint("--until-idle", "10", "--ignore", "1,2,3")
+        self.expect(done, 125, "run: argument --ignore: 1,2,3: a box is X,Y,W,H, as 10,20,100,30; --help tells more")
+
+    def test_client_without_the_dashes(self):
+        words = [sys.executable, TOOLS / "run", "--size", "64x48", "weston-flower", "--fast"]
+        done = subprocess.run(words, env=self.environment(), capture_output=True, text=True, check=False)
+        self.expect(done, 125, "run: weston-flower: a client stands behind --, as in: -- weston-flower --fast; --help tells more")
+        self.expect(self.paint("--pgn", "shot.png"), 125, "run: there is no option --pgn; --help tells more")
+        self.expect(self.paint("shot.png"), 125, "run: shot.png stands before --, and is no option; --help tells more")
+
+    def test_pointer_file(self):
+        missing = self.room / "missing"
+        self.expect(self.paint("--pointer", missing), 125, f"run: --pointer {missing}: No such file or directory; --help tells more")
+        path = self.room / "moves"
+        for line in ("move 1 2 3", "motion 1 2", "button 0 272 2", "motion -1 2 3"):
+            path.write_text(f"# good\n\n motion 0 -3 4\nbutton 00 272 1 \n{line}\n")
+            said = f"run: --pointer {path}: line 5 is {line!r}, and neither `motion T X Y` nor `button T CODE 0` or `1`; --help tells more"
+            self.expect(self.paint("--pointer", path), 125, said)
+        path.write_text("# good\nmotion 0 3 4")
+        self.assertEqual(self.paint("--pointer", path, painter=["ff0000"]).returncode, 0)
 
     def test_full_disk(self):
         self.expect(self.paint("--report", "/dev/full", painter=["ff0000"]), 125, FULL)
@@ -195,11 +229,11 @@ class Runs(unittest.TestCase):
         self.expect(self.paint("--png", missing, painter=["ff0000"]), 125, f"run: {missing} can't be written: there is no such folder")
 
     def test_full_disk_for_pools(self):
-        """No file may be longer than 1,000 bytes, but for the client's own, so that the memory of its window can't be copied."""
+        """No file may be longer than 1,000 bytes, but for the client's own: its memory is shown by a link, and isn't copied."""
         limit = {"preexec_fn": lambda: resource.setrlimit(resource.RLIMIT_FSIZE, (1000, resource.RLIM_INFINITY))}
-        done = self.paint("--png", "shot.png", painter=["ff0000"], **limit)
-        self.assertNotEqual(done.returncode, 0)
-        self.assertRegex(done.stderr, r"bridge: client 2 .*was ended by the bridge: .*/pools/2.1: File too large; make room there")
+        done = self.paint("--report", "told", painter=["ff0000"], **limit)
+        self.assertEqual((done.returncode, done.stderr), (0, ""))
+        self.assertIn("frame ", (self.room / "told").read_text())
 
     def test_folder_of_frames_that_is_not_empty(self):
         (self.room / "kept").write_text("kept")
@@ -223,12 +257,24 @@ class Runs(unittest.TestCase):
         painter = [sys.executable, HERE / "painter.py", "--then", "wait", "ff0000"]
         started = subprocess.Popen(self.words("--png", "shot.png", client=painter), cwd=self.room, env=self.environment(), stdout=subprocess.DEVNULL)
         wait_for((self.room / "shot.png").exists, "no picture is written")
-        below = children(started.pid)
-        self.assertEqual(len(below), 3)
+        all_below = below(started.pid)
+        self.assertEqual(len(all_below), 4)  # the supervisor, and server, bridge and client below it
         started.send_signal(signal.SIGTERM)
         self.assertEqual(started.wait(PATIENCE), 128 + signal.SIGTERM)
-        self.assertFalse([it for it in below if (pathlib.Path("/proc") / it).exists()])
+        self.assertFalse([it for it in all_below if (pathlib.Path("/proc") / it).exists()])
         self.assertEqual(read(self.room / "shot.png"), expected(RED))
+        self.assertEqual(os.listdir(self.own), [])
+
+    def test_end_by_sigkill(self):
+        """Nothing is left: neither the folder nor a process, nor what the client started."""
+        client = ["sh", "-c", f"setsid sleep 1000 & {sys.executable} {HERE / 'painter.py'} --then wait ff0000"]
+        started = subprocess.Popen(self.words("--png", "shot.png", client=client), cwd=self.room, env=self.environment(), stdout=subprocess.DEVNULL)
+        wait_for((self.room / "shot.png").exists, "no picture is written")
+        all_below = below(started.pid)
+        self.assertGreaterEqual(len(all_below), 6)
+        started.kill()
+        started.wait()
+        wait_for(lambda: not any((pathlib.Path("/proc") / it).exists() for it in all_below), "a process is left")
         self.assertEqual(os.listdir(self.own), [])
 
     def test_installed(self):
@@ -254,7 +300,8 @@ class Runs(unittest.TestCase):
         if os.getuid() != 0:
             self.skipTest("only root can be another user; the other tests show it as this one")
         place = pathlib.Path(self.enterContext(tempfile.TemporaryDirectory(dir="/tmp")))
-        shutil.copytree(TOOLS, place / "tools", ignore=shutil.ignore_patterns("__pycache__"))
+        for name in ("tools", "python"):
+            shutil.copytree(TOOLS.parent / name, place / name, ignore=shutil.ignore_patterns("__pycache__"))
         shutil.copy(program(), place / "wlframe")
         (place / "home").mkdir()
         place.chmod(0o755)

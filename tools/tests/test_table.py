@@ -5,7 +5,8 @@ import unittest
 
 sys.path.insert(0, str(pathlib.Path(__file__).resolve().parent))
 from rig import TOOLS, loaded  # pylint: disable=wrong-import-position
-from wayland_table import INTERFACES, enum_of  # pylint: disable=wrong-import-position
+from wlframe.wayland import extra  # pylint: disable=wrong-import-position
+from wlframe.wayland.table import INTERFACES, enum_of  # pylint: disable=wrong-import-position
 
 CHECK = loaded(TOOLS.parent / "docs" / "check-protocol")
 
@@ -22,6 +23,15 @@ class Table(unittest.TestCase):
                 with self.subTest(interface=interface, kind=kind):
                     ours = [CHECK.as_proved(it) for it in CHECK.of_tools(interface, kind)]
                     self.assertEqual(messages, ours[: len(messages)])
+
+    def test_what_the_bridge_answers_itself_is_the_same(self):
+        folder = pathlib.Path("/usr/share/wayland-protocols/unstable")
+        paths = [folder / "xdg-output" / "xdg-output-unstable-v1.xml", folder / "primary-selection" / "primary-selection-unstable-v1.xml"]
+        if not all(it.exists() for it in paths):
+            self.skipTest("Debian's package wayland-protocols isn't installed")
+        for path in paths:
+            for made in loaded(TOOLS.parent / "docs" / "table-of").table(path):
+                self.assertIn(f"\n\n{made}\n\n", f"\n{extra.TABLE}\n")
 
     def test_errors_are_named(self):
         _, errors, _, _, _ = CHECK.for_people()

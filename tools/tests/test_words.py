@@ -10,14 +10,12 @@ import unittest
 from unittest import mock
 
 sys.path.insert(0, str(pathlib.Path(__file__).resolve().parent))
-from rig import TOOLS, loaded, program  # pylint: disable=wrong-import-position
+from rig import TOOLS, program  # pylint: disable=wrong-import-position
+from wlframe.commands import words as script  # pylint: disable=wrong-import-position
 
 EXAMPLES = TOOLS.parent / "examples"
 SYNC = "01000000 00000c00 02000000"
 DONE = "0200000000000c00000000000100000001000c0002000000"
-
-
-SCRIPT = loaded(TOOLS / "words")
 
 
 def words(text, *options):
@@ -25,7 +23,7 @@ def words(text, *options):
     lines, said = io.StringIO(), io.StringIO()
     with contextlib.redirect_stdout(lines), contextlib.redirect_stderr(said):
         with mock.patch.multiple(sys, argv=["words", *map(str, options)], stdin=io.StringIO(text)):
-            status = SCRIPT.main()
+            status = script.main()
     return status, lines.getvalue().splitlines(), said.getvalue()
 
 

@@ -9,7 +9,7 @@ use Rattle.wl_shell.specs.declared.stage.Stage.{Stage}
 use Rattle.wl_shell.specs.Shell.{Effect, Stays, Unconfigured, Configures, Maps, Unmaps, Fresh, Waiting, Mapped, Kind, Toplevel, IsPopup, Popup, RoleObject, Shell, XdgSurface as Xdg}
 use Rattle.wl_shell.specs.Shell.{acknowledging, at_stage, configuring, in_stage, new_toplevel, role_acknowledged, unmapping, with_change, with_new, without_role, without_xdg, xdg_at, xdg_of}
 use Rattle.wl_shell.specs.Shell.{Configure, awaiting, latest_placement, up_to}
-use Rattle.spec_desktop.specs.Ask.{Ask, Own, CreateSurface, AskSurface, EndObject, GetXdgSurface, DestroyXdgSurface, GetToplevel, Acknowledge, ConfigureAgain, Ignore}
+use Rattle.spec_desktop.specs.Ask.{Ask, GetXdgSurface, DestroyXdgSurface, GetToplevel, Acknowledge, ConfigureAgain}
 use Rattle.spec_desktop.specs.Changing.{Placing, changed_for, drawing, effect_placing, grab_allowed, grabbed, has_focus, in_rising_order, is_configure, mode_set, placement_now, popup_given_to, tree_committed}
 use Rattle.spec_desktop.specs.Changing.{popup_repositioned}
 use Rattle.spec_desktop.specs.Demand.{Demand, Asks, EndSurface, AskFrame, CommitTree, GetSubsurface, EndSubsurface, SetMode, GetPointer, MakeCursor, Reposition}
@@ -153,16 +153,12 @@ module _ (P : ℕ → Popup → Type 0) where
     of-toplevel id xdg (Some x) r of = of-change xdg (new_toplevel id _) (λ y k. tt) r.owned.shell of
 
     of-asked : (ask : Ask) (r : Resident) → OfEach P r.owned.shell → OfEach P (changed_by ask r).owned.shell
-    of-asked (Own action) r of = of
-    of-asked (CreateSurface id version) r of = of
-    of-asked (AskSurface id request) r of = of
-    of-asked (EndObject id) r of = of
     of-asked (GetXdgSurface id version base surface) r of = of-new id base surface r.owned.shell of
     of-asked (DestroyXdgSurface id) r of = of-without id r.owned.shell of
     of-asked (GetToplevel id version xdg) r of = of-toplevel id xdg (xdg_at xdg r.owned.shell) r of
     of-asked (Acknowledge xdg serial) r of = of-change xdg (acknowledging serial) (λ x k. role-acknowledged waits (up_to serial x.configures) x.role k) r.owned.shell of
     of-asked (ConfigureAgain xdg) r of = of-change xdg (configuring r.peer.serial) (λ x k. k) r.owned.shell of
-    of-asked Ignore r of = of
+    of-asked ask r of = of
 
     of-mode : (link : ℕ) (b : Bool) (r : Resident) → OfEach P r.owned.shell → OfEach P (mode_set link b r).owned.shell
     of-mode link true r of = of

@@ -1,4 +1,4 @@
--- What each client owns is in order wherever nobody points, with popups and whatever is left out.
+-- What each client owns is in order wherever nobody points, with popups.
 pub mod Dismissed
 pub mod Held
 pub mod Ids

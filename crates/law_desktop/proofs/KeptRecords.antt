@@ -1,4 +1,3 @@
-pub mod Isolation
 pub mod Keeping
 pub mod Marks
 pub mod Toplevels

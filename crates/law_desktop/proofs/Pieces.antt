@@ -5,3 +5,4 @@ pub mod Changing
 pub mod Places
 pub mod Serving
 pub mod Settling
+pub mod Splits

@@ -1,4 +1,4 @@
--- Which toplevels stand and which surfaces show a buffer wherever nobody points, with popups and whatever is left out.
+-- Which toplevels stand and which surfaces show a buffer wherever nobody points, with popups.
 pub mod Demands
 pub mod Fitting
 pub mod Found

@@ -9,8 +9,7 @@ use Rattle.spec_desktop.specs.declared.cause.Cause.TheVariants as cause
 use Rattle.spec_desktop.specs.declared.refusals.ErrorCode.TheVariants.{InvalidMethod}
 use Rattle.spec_desktop.specs.declared.refusals.Refusal.{Refusal}
 use Rattle.spec_desktop.specs.Peer.{Peer, counted, ended, has_room, queued, sent_by, stored_at, with_rest}
-use Rattle.spec_desktop.specs.Plain.{refused}
-use Rattle.spec_desktop.specs.Told.{Said, display_error}
+use Rattle.spec_desktop.specs.Told.{Said, code_number, display_error, error_told}
 use Rattle.spec_desktop.specs.Pointer.{is_down, is_press}
 use Rattle.spec_desktop.specs.PointerActions.{PointerAction, PointerInput, actions}
 use Rattle.spec_desktop.specs.PointerActions as pointer
@@ -21,7 +20,6 @@ use Rattle.spec_desktop.specs.Demand.{Demand}
 use Rattle.spec_desktop.specs.Demanding.{judge_all}
 use Rattle.spec_desktop.specs.Desktop.{Desktop, Resident, arrival, client_at, with_client}
 use Rattle.spec_desktop.specs.Pointing.{button_told, entered_surface, has_pointers, left_surface, motion_told, moved_standing}
-use Rattle.spec_desktop.specs.LeftOut.{LeftOut}
 use Rattle.spec_desktop.specs.Replies.{focus_window, popups_done, replies}
 use Rattle.spec_desktop.specs.Settling.{Midstep, Strike, becomes, ended_all, ended_by, is_struck, leave_drawn, noted_if, number_of, struck_by}
 use Rattle.spec_desktop.specs.Settling.{told_drawn, unstruck, with_focus, with_standing, without_grabs}
@@ -103,6 +101,16 @@ ends_and_settles mid = settles_all 33 (unstruck (ended_all mid.struck mid.deskto
 
 -- ---- messages
 
+-- a client that is refused: where there is room it is told, and else it is too slow
+abbrev pub refused_or : Bool → Peer → Peer → Peer
+refused_or true next p = next
+refused_or false next p = ended cause.Slow p
+
+abbrev pub refused : Refusal → Peer → Peer
+refused refusal p =
+    refused_or (has_room p.unsent (error_told refusal))
+    (ended (cause.Protocol refusal.object (code_number refusal.code)) (queued (error_told refusal) p)) p
+
 abbrev pub became : ℕ → Resident → Peer → Desktop → Desktop
 became c r q d = ends_and_settles (unstruck (becomes c r q d))
 
@@ -110,49 +118,49 @@ abbrev pub done_so : Peer × Option Cause → ℕ → Demand → Resident → De
 done_so told c demand r d =
     ends_and_settles (changed_so c demand r d told.0 told.1)
 
-abbrev pub done : LeftOut → ℕ → Demand → Resident → Desktop → Desktop
-done left c demand r d =
-    done_so (queued_to (replies left c demand r (changed_for c demand r d) (all_windows d) d) (changed_for c demand r d).peer) c demand r d
+abbrev pub done : ℕ → Demand → Resident → Desktop → Desktop
+done c demand r d =
+    done_so (queued_to (replies c demand r (changed_for c demand r d) (all_windows d) d) (changed_for c demand r d).peer) c demand r d
 
-abbrev pub answered : LeftOut → Result Demand Refusal → ℕ → Resident → Desktop → Desktop
-answered left (Ok demand) c r d = done left c demand (with_peer (counted r.peer) r) d
-answered left (Err refusal) c r d = became c r (refused refusal r.peer) d
+abbrev pub answered : Result Demand Refusal → ℕ → Resident → Desktop → Desktop
+answered (Ok demand) c r d = done c demand (with_peer (counted r.peer) r) d
+answered (Err refusal) c r d = became c r (refused refusal r.peer) d
 
-abbrev pub taken : LeftOut → Split → ℕ → Resident → Desktop → Desktop
-taken left (Message object opcode size) c r d =
-    answered left (judge_all left r object opcode (take (size - 8) (drop 8 r.peer.rest))) c
+abbrev pub taken : Split → ℕ → Resident → Desktop → Desktop
+taken (Message object opcode size) c r d =
+    answered (judge_all r object opcode (take (size - 8) (drop 8 r.peer.rest))) c
     (with_peer (with_rest (drop size r.peer.rest) r.peer) r) d
-taken left Bad c r d = became c r (refused (display_error InvalidMethod) r.peer) d
-taken left More c r d = d
+taken Bad c r d = became c r (refused (display_error InvalidMethod) r.peer) d
+taken More c r d = d
 
-abbrev pub served_by : LeftOut → ℕ → Option Cause → Resident → Desktop → Desktop
-served_by left c (Some cause) r d = d
-served_by left c None r d = taken left (split_of r.peer.rest) c r d
+abbrev pub served_by : ℕ → Option Cause → Resident → Desktop → Desktop
+served_by c (Some cause) r d = d
+served_by c None r d = taken (split_of r.peer.rest) c r d
 
-abbrev pub served_at : LeftOut → ℕ → Option Resident → Desktop → Desktop
-served_at left c None d = d
-served_at left c (Some r) d = served_by left c r.peer.status r d
+abbrev pub served_at : ℕ → Option Resident → Desktop → Desktop
+served_at c None d = d
+served_at c (Some r) d = served_by c r.peer.status r d
 
-abbrev pub served : LeftOut → ℕ → Desktop → Desktop
-served left c d = served_at left c (client_at c d) d
+abbrev pub served : ℕ → Desktop → Desktop
+served c d = served_at c (client_at c d) d
 
 -- at most n messages
-abbrev pub served_all : LeftOut → ℕ → ℕ → Desktop → Desktop
-served_all left c zero d = d
-served_all left c (suc n) d = served left c (served_all left c n d)
+abbrev pub served_all : ℕ → ℕ → Desktop → Desktop
+served_all c zero d = d
+served_all c (suc n) d = served c (served_all c n d)
 
-abbrev pub fed_by : LeftOut → ℕ → List ℕ → Option Cause → Resident → Desktop → Desktop
-fed_by left c piece (Some cause) r d = d
-fed_by left c piece None r d =
-    served_all left c (length (r.peer.rest ++ piece)) (with_client c (Some (with_peer (with_rest (r.peer.rest ++ piece) r.peer) r)) d)
+abbrev pub fed_by : ℕ → List ℕ → Option Cause → Resident → Desktop → Desktop
+fed_by c piece (Some cause) r d = d
+fed_by c piece None r d =
+    served_all c (length (r.peer.rest ++ piece)) (with_client c (Some (with_peer (with_rest (r.peer.rest ++ piece) r.peer) r)) d)
 
-abbrev pub fed_at : LeftOut → ℕ → List ℕ → Option Resident → Desktop → Desktop
-fed_at left c piece None d = d
-fed_at left c piece (Some r) d = fed_by left c piece r.peer.status r d
+abbrev pub fed_at : ℕ → List ℕ → Option Resident → Desktop → Desktop
+fed_at c piece None d = d
+fed_at c piece (Some r) d = fed_by c piece r.peer.status r d
 
 -- a piece comes to a client
-abbrev pub fed : LeftOut → ℕ → List ℕ → Desktop → Desktop
-fed left c piece d = fed_at left c piece (client_at c d) d
+abbrev pub fed : ℕ → List ℕ → Desktop → Desktop
+fed c piece d = fed_at c piece (client_at c d) d
 
 -- ---- the other steps
 
@@ -208,13 +216,13 @@ buttons false time button d = released_if (is_down button d.pointer.buttons) tim
 
 -- ---- all of them
 
-abbrev pub happened : LeftOut → Act → Desktop → Desktop
-happened left Connect d = connects_at (lowest d.clients) d
-happened left (Feed c piece) d = fed left c piece d
-happened left (Store c store at bytes) d = changes_at (λ p. Some (stored_at p.status store at bytes p)) c (client_at c d) d
-happened left (Leave c) d = left_at c (client_at c d) d
-happened left (Tick time) d = shown time d
-happened left (Send c n) d = changes_at (λ p. Some (sent_by n p)) c (client_at c d) d
-happened left (Close c) d = changes_at (λ p. closed_by p.status p) c (client_at c d) d
-happened left (Motion time x y) d = moved_to time (point_in d.output x y) d
-happened left (Button time button pressed) d = buttons pressed time button d
+abbrev pub happened : Act → Desktop → Desktop
+happened Connect d = connects_at (lowest d.clients) d
+happened (Feed c piece) d = fed c piece d
+happened (Store c store at bytes) d = changes_at (λ p. Some (stored_at p.status store at bytes p)) c (client_at c d) d
+happened (Leave c) d = left_at c (client_at c d) d
+happened (Tick time) d = shown time d
+happened (Send c n) d = changes_at (λ p. Some (sent_by n p)) c (client_at c d) d
+happened (Close c) d = changes_at (λ p. closed_by p.status p) c (client_at c d) d
+happened (Motion time x y) d = moved_to time (point_in d.output x y) d
+happened (Button time button pressed) d = buttons pressed time button d

@@ -8,7 +8,6 @@ use Rattle.spec_desktop.specs.declared.answers.Done.{Done}
 use Rattle.spec_desktop.specs.Act.{Act}
 use Rattle.spec_desktop.specs.Desktop.{Desktop, Resident, client_at}
 use Rattle.spec_desktop.specs.Happens.{Happens}
-use Rattle.spec_desktop.specs.LeftOut.{LeftOut}
 use Rattle.spec_desktop.specs.Settling.{Midstep, Settles}
 use Rattle.spec_desktop.specs.Stacked.{all_windows}
 
@@ -23,8 +22,8 @@ EndedAreBare d = (c : ℕ) (r : Resident) → client_at c d ≡ Some r → is_so
 -- Whatever happens leaves the focus settled: no client that is to end is left, of 32, when it was settled for the last time.
 abbrev pub FocusIsSettled : Type 0
 FocusIsSettled =
-    (left : LeftOut) (act : Act) (done : Done) (old new : Desktop) → length old.clients ≤ 32 → EndedAreBare old → IsSettled old
-    → Happens left act done old new → IsSettled new
+    (act : Act) (done : Done) (old new : Desktop) → length old.clients ≤ 32 → EndedAreBare old → IsSettled old
+    → Happens act done old new → IsSettled new
 
 -- To settle the focus shows nothing new: the windows stay, and so do the toplevels that stand.
 abbrev pub SettlingShowsNothing : Type 0

@@ -5,7 +5,6 @@ use Rattle.spec_desktop.specs.Act.{Feed}
 use Rattle.spec_desktop.specs.Desktop.{Desktop, empty}
 use Rattle.spec_desktop.specs.Happenings.{ArePiece, Happening, Leads, LeadsAll}
 use Rattle.spec_desktop.specs.Happens.{Happens}
-use Rattle.spec_desktop.specs.LeftOut.{LeftOut}
 use Rattle.spec_desktop.specs.Marks.{AreDistinct}
 use Rattle.spec_desktop.specs.Moments.{marks_at_least_of, marks_at_least_through}
 use Rattle.spec_desktop.specs.Stacked.{all_windows}
@@ -16,9 +15,9 @@ use Rattle.law_desktop.specs.Soundness.{IsSound}
 -- many of them until memory runs out; to a client that has ended, or isn't there, it does nothing. And wherever these lead a piece does.
 abbrev pub PieceIsMessages : Type 0
 PieceIsMessages =
-    (left : LeftOut) (c : ℕ) (piece : List ℕ) (d new : Desktop)
-    → ((done : Done) → Happens left (Feed c piece) done d new → (hs : List Happening) × ArePiece c piece d hs new × LeadsAll left hs d new)
-    × ((hs : List Happening) → ArePiece c piece d hs new → LeadsAll left hs d new → (done : Done) × Happens left (Feed c piece) done d new)
+    (c : ℕ) (piece : List ℕ) (d new : Desktop)
+    → ((done : Done) → Happens (Feed c piece) done d new → (hs : List Happening) × ArePiece c piece d hs new × LeadsAll hs d new)
+    × ((hs : List Happening) → ArePiece c piece d hs new → LeadsAll hs d new → (done : Done) × Happens (Feed c piece) done d new)
 
 abbrev pub AreSound : List Desktop → Type 0
 AreSound [] = Unit {0}
@@ -27,16 +26,16 @@ AreSound (d ∷ ds) = IsSound d × AreSound ds
 -- After whatever happened from a desktop without clients on the desktop is sound, and so is each that the next happening leads through.
 abbrev pub HappeningsAreSound : Type 0
 HappeningsAreSound =
-    (left : LeftOut) (output : Output) (hs : List Happening) (d : Desktop)
-    → LeadsAll left hs (empty output) d
-    → IsSound d × ((h : Happening) (path : List Desktop) (new : Desktop) → Leads left h d path new → AreSound path)
+    (output : Output) (hs : List Happening) (d : Desktop)
+    → LeadsAll hs (empty output) d
+    → IsSound d × ((h : Happening) (path : List Desktop) (new : Desktop) → Leads h d path new → AreSound path)
 
 -- What is marked through the desktops of a happening holds what is marked from the first to the last: the ends and settlings that follow a
 -- change hide nothing of it.
 abbrev pub MarkedThrough : Type 0
 MarkedThrough =
-    (left : LeftOut) (h : Happening) (d : Desktop) (path : List Desktop) (new : Desktop) (x y : ℤ)
+    (h : Happening) (d : Desktop) (path : List Desktop) (new : Desktop) (x y : ℤ)
     → AreDistinct (all_windows d)
-    → Leads left h d path new
+    → Leads h d path new
     → marks_at_least_through all_windows d path x y ≡ false
     → marks_at_least_of all_windows d new x y ≡ false

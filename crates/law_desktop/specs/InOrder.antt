@@ -1,4 +1,4 @@
--- What holds of every client wherever nobody points, with subsurfaces and with popups, whatever is left out. Each step keeps it, and each
+-- What holds of every client wherever nobody points, with subsurfaces and with popups. Each step keeps it, and each
 -- message by itself.
 use Rattle.std.specs.Prelude.{ℕ, ◌≡◌, ◌≤◌, ◌<◌, ◌==◌, ◌&&◌, Bool, true, false, is_some, not, Option, Some, None, List, [], ◌∷◌, take}
 use Rattle.std.specs.List.{list_any}

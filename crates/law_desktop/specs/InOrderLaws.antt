@@ -1,4 +1,4 @@
--- What each client owns is in order wherever nobody points, with popups and whatever is left out: each step keeps it.
+-- What each client owns is in order wherever nobody points, with popups: each step keeps it.
 use Rattle.std.specs.Prelude.{ℕ, ◌≡◌, ◌≤◌, ◌==◌, true, false, Ok, Some, None, List, []}
 use Rattle.std.specs.List.{list_any}
 use Rattle.spec_desktop.specs.declared.cause.Cause.{Cause}
@@ -13,7 +13,6 @@ use Rattle.spec_desktop.specs.Demanding.{judge_all}
 use Rattle.spec_desktop.specs.Desktop.{Desktop, Resident, client_at, empty, with_client}
 use Rattle.spec_desktop.specs.Framing.{FramesToldAt}
 use Rattle.spec_desktop.specs.Happens.{Happens, Serves}
-use Rattle.spec_desktop.specs.LeftOut.{LeftOut}
 use Rattle.spec_desktop.specs.Replies.{popups_done}
 use Rattle.spec_desktop.specs.Settling.{EndsAndSettles, becomes, unstruck}
 use Rattle.spec_desktop.specs.Step.{with_peer}
@@ -43,7 +42,7 @@ PopupsAreNumbered =
 abbrev pub PopupsRise : Type 0
 PopupsRise = (r : Resident) → OwnsInOrder r → AreRising (popups_of r.owned.shell)
 
--- ---- what keeps a desktop in order, whatever is left out
+-- ---- what keeps a desktop in order
 
 -- A desktop without clients is in order.
 abbrev pub EmptyIsInOrder : Type 0
@@ -52,11 +51,11 @@ EmptyIsInOrder = (output : Output) → InOrder (empty output)
 -- Whatever happens that leaves the pointer alone.
 abbrev pub InOrderStays : Type 0
 InOrderStays =
-    (left : LeftOut) (act : Act) (done : Done) (d e : Desktop) → LeavesPointer act → InOrder d → Happens left act done d e → InOrder e
+    (act : Act) (done : Done) (d e : Desktop) → LeavesPointer act → InOrder d → Happens act done d e → InOrder e
 
 -- One message of a client.
 abbrev pub MessagesKeepInOrder : Type 0
-MessagesKeepInOrder = (left : LeftOut) (c : ℕ) (d e : Desktop) → InOrder d → Serves left c d e → InOrder e
+MessagesKeepInOrder = (c : ℕ) (d e : Desktop) → InOrder d → Serves c d e → InOrder e
 
 -- What is kept of the stream of a client that is there, before its messages are taken.
 abbrev pub PiecesKeepInOrder : Type 0
@@ -82,11 +81,11 @@ PeersKeepInOrder =
     (r : Resident) (p : Peer) → p.objects ≡ r.peer.objects → p.buffers ≡ r.peer.buffers → r.peer.requests ≤ p.requests → OwnsInOrder r
     → OwnsInOrder (with_peer p r)
 
--- What an accepted message demands, whatever is left out, done once its request is counted and its bytes are taken.
+-- What an accepted message demands, done once its request is counted and its bytes are taken.
 abbrev pub DemandsKeepInOrder : Type 0
 DemandsKeepInOrder =
-    (left : LeftOut) (c : ℕ) (r : Resident) (rest : List ℕ) (object opcode : ℕ) (body : List ℕ) (demand : Demand) (d : Desktop)
-    → OwnsInOrder r → judge_all left r object opcode body ≡ Ok demand
+    (c : ℕ) (r : Resident) (rest : List ℕ) (object opcode : ℕ) (body : List ℕ) (demand : Demand) (d : Desktop)
+    → OwnsInOrder r → judge_all r object opcode body ≡ Ok demand
     → OwnsInOrder (changed_for c demand (with_peer (counted (with_rest rest r.peer)) r) d)
 
 -- ---- popups that are dismissed

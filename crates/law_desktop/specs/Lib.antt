@@ -1,5 +1,4 @@
 pub mod Acts
-pub mod Alone
 pub mod Ample
 pub mod AnyPieces
 pub mod Apart
@@ -45,7 +44,6 @@ pub mod Telling
 pub mod Through
 pub mod Toplevel
 pub mod ToplevelRoots
-pub mod Toplevels
 pub mod Touching
 pub mod TreeBuffersLaws
 pub mod TreeMarksLaws

@@ -1,4 +1,4 @@
--- Where nobody points nobody does after what leaves the pointer alone, whatever is left out, and no popup gets a grab.
+-- Where nobody points nobody does after what leaves the pointer alone, and no popup gets a grab.
 use Rattle.std.specs.Prelude.{ℕ, ◌≡◌, ◌==◌, Some, List, false}
 use Rattle.spec_desktop.specs.declared.cause.Cause.{Cause}
 use Rattle.spec_desktop.specs.Peer.{Peer, ended, with_rest}
@@ -11,7 +11,6 @@ use Rattle.spec_desktop.specs.Demand.{Grab}
 use Rattle.spec_desktop.specs.Desktop.{Desktop, Resident, client_at, empty, with_client}
 use Rattle.spec_desktop.specs.Framing.{FramesToldAt}
 use Rattle.spec_desktop.specs.Happens.{Happens, Serves}
-use Rattle.spec_desktop.specs.LeftOut.{LeftOut}
 use Rattle.spec_desktop.specs.Settling.{EndsAndSettles, becomes, unstruck}
 use Rattle.spec_desktop.specs.Step.{with_peer, with_shell}
 use Rattle.law_desktop.specs.Acts.{LeavesPointer}
@@ -26,12 +25,12 @@ EmptyIsUnpointed = (output : Output) → NobodyPoints (empty output)
 -- Nor does anybody after whatever leaves the pointer alone.
 abbrev pub UnpointedStays : Type 0
 UnpointedStays =
-    (left : LeftOut) (act : Act) (done : Done) (d e : Desktop) → LeavesPointer act → NobodyPoints d → Happens left act done d e
+    (act : Act) (done : Done) (d e : Desktop) → LeavesPointer act → NobodyPoints d → Happens act done d e
     → NobodyPoints e
 
 -- Nor after one message of a client.
 abbrev pub MessagesKeepUnpointed : Type 0
-MessagesKeepUnpointed = (left : LeftOut) (c : ℕ) (d e : Desktop) → NobodyPoints d → Serves left c d e → NobodyPoints e
+MessagesKeepUnpointed = (c : ℕ) (d e : Desktop) → NobodyPoints d → Serves c d e → NobodyPoints e
 
 -- Nor where what came of a client's stream is kept, before its messages are taken.
 abbrev pub PiecesKeepUnpointed : Type 0

@@ -10,7 +10,6 @@ use Rattle.spec_desktop.specs.declared.answers.Done.{Done}
 use Rattle.spec_desktop.specs.Act.{Act}
 use Rattle.spec_desktop.specs.Desktop.{Desktop, Resident, arrival, client_at, empty}
 use Rattle.spec_desktop.specs.Happens.{Happens}
-use Rattle.spec_desktop.specs.LeftOut.{LeftOut}
 use Rattle.spec_desktop.specs.WlSurface.{buffer_of}
 use Rattle.law_desktop.specs.RunLaws.{Lasts}
 
@@ -59,12 +58,12 @@ ArrivalHasOneBuffer = (output : Output) → HasOneBuffer (arrival output)
 -- Whatever happens leaves each client one buffer of each number.
 abbrev pub HappensKeepsOneBuffer : Type 0
 HappensKeepsOneBuffer =
-    (left : LeftOut) (act : Act) (done : Done) (old new : Desktop) → HaveOneBuffer old → Happens left act done old new → HaveOneBuffer new
+    (act : Act) (done : Done) (old new : Desktop) → HaveOneBuffer old → Happens act done old new → HaveOneBuffer new
 
 -- Whatever happens from a desktop without clients on, each client has one buffer of each number.
 abbrev pub RunHasOneBuffer : Type 0
 RunHasOneBuffer =
-    (left : LeftOut) (output : Output) (acts : List Act) (dones : List Done) (d : Desktop) → Lasts left acts dones (empty output) d
+    (output : Output) (acts : List Act) (dones : List Done) (d : Desktop) → Lasts acts dones (empty output) d
     → HaveOneBuffer d
 
 -- ---- what a surface has

@@ -3,7 +3,6 @@ use Rattle.std.specs.Prelude.{ℕ, ◌≡◌, Ok, List}
 use Rattle.spec_desktop.specs.Demand.{Demand}
 use Rattle.spec_desktop.specs.Demanding.{judge_all}
 use Rattle.spec_desktop.specs.Desktop.{Desktop, Resident}
-use Rattle.spec_desktop.specs.LeftOut.{LeftOut}
 use Rattle.law_desktop.specs.InOrder.{InOrder, OwnsInOrder}
 use Rattle.law_desktop.specs.Shown.{ShownStand}
 use Rattle.law_desktop.specs.Changes.{HasTrees}
@@ -13,8 +12,8 @@ use Rattle.law_desktop.specs.Done.{IsMeant}
 abbrev pub InOrderHasTrees : Type 0
 InOrderHasTrees = (d : Desktop) → InOrder d → ShownStand d → HasTrees d
 
--- What an accepted message demands is made as the protocol has it, whatever is left out.
+-- What an accepted message demands is made as the protocol has it.
 abbrev pub JudgedIsMeant : Type 0
 JudgedIsMeant =
-    (left : LeftOut) (r : Resident) (object opcode : ℕ) (body : List ℕ) (demand : Demand) → OwnsInOrder r
-    → judge_all left r object opcode body ≡ Ok demand → IsMeant demand r
+    (r : Resident) (object opcode : ℕ) (body : List ℕ) (demand : Demand) → OwnsInOrder r
+    → judge_all r object opcode body ≡ Ok demand → IsMeant demand r

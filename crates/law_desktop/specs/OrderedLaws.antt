@@ -16,7 +16,6 @@ use Rattle.spec_desktop.specs.Demanding.{judge_all}
 use Rattle.spec_desktop.specs.Desktop.{Desktop, Resident, client_at, empty, unpointed, with_client}
 use Rattle.spec_desktop.specs.Framing.{FramesToldAt}
 use Rattle.spec_desktop.specs.Happens.{Happens, Serves}
-use Rattle.spec_desktop.specs.LeftOut.{nothing_left_out}
 use Rattle.spec_desktop.specs.Settling.{Applies, EndsAndSettles, Midstep, becomes, unstruck}
 use Rattle.spec_desktop.specs.Step.{with_peer, with_shell}
 use Rattle.law_desktop.specs.Acts.{LeavesPointer}
@@ -36,11 +35,11 @@ EmptyIsOrdered = (output : Output) → Ordered (empty output)
 
 -- Whatever happens that leaves the pointer alone.
 abbrev pub OrderedStays : Type 0
-OrderedStays = (act : Act) (done : Done) (d e : Desktop) → LeavesPointer act → Ordered d → Happens nothing_left_out act done d e → Ordered e
+OrderedStays = (act : Act) (done : Done) (d e : Desktop) → LeavesPointer act → Ordered d → Happens act done d e → Ordered e
 
 -- One message of a client.
 abbrev pub MessagesKeepOrdered : Type 0
-MessagesKeepOrdered = (c : ℕ) (d e : Desktop) → Ordered d → Serves nothing_left_out c d e → Ordered e
+MessagesKeepOrdered = (c : ℕ) (d e : Desktop) → Ordered d → Serves c d e → Ordered e
 
 -- What is kept of the stream of a client that is there, before its messages are taken.
 abbrev pub PiecesKeepOrdered : Type 0
@@ -77,7 +76,7 @@ PeersKeepOrdered =
 abbrev pub DemandsKeepOrdered : Type 0
 DemandsKeepOrdered =
     (c : ℕ) (r : Resident) (rest : List ℕ) (object opcode : ℕ) (body : List ℕ) (demand : Demand) (d : Desktop) → OwnsOrdered r
-    → judge_all nothing_left_out r object opcode body ≡ Ok demand
+    → judge_all r object opcode body ≡ Ok demand
     → OwnsOrdered (changed_for c demand (with_peer (counted (with_rest rest r.peer)) r) d)
 
 -- Popups that are dismissed, with what descends from them (xdg-shell.xml, xdg_popup.popup_done).

@@ -1,4 +1,4 @@
--- What a step of one client leaves of the others, whatever is left out.
+-- What a step of one client leaves of the others.
 use Rattle.std.specs.Prelude.{ℕ, ℤ, ◌≡◌, ◌≢◌, ◌-◌, true, if◌then◌else◌, Option, Some, None, Result, Ok, Err, List, [], ◌∷◌, ◌++◌, drop}
 use Rattle.std.specs.Prelude.{flat_map, take, ◌⊎◌}
 use Rattle.wl_wire.specs.Wire.{Word, Number, split_of}
@@ -20,7 +20,6 @@ use Rattle.spec_desktop.specs.declared.answers.Done.TheVariants as gave
 use Rattle.spec_desktop.specs.Demand.{Demand}
 use Rattle.spec_desktop.specs.Demanding.{judge_all}
 use Rattle.spec_desktop.specs.Desktop.{Desktop, Resident, client_at, resident_of, toplevels_of}
-use Rattle.spec_desktop.specs.LeftOut.{LeftOut}
 use Rattle.spec_desktop.specs.Pointing.{has_pointers}
 use Rattle.spec_desktop.specs.Step.{with_peer}
 use Rattle.spec_desktop.specs.Act.{Act, Connect, Feed, Store, Leave, Tick, Send, Close, Motion, Button}
@@ -102,8 +101,8 @@ client_of (Button time button pressed) done = None
 -- A step of a client leaves every other client alone, a message that is refused too.
 abbrev pub OthersAreLeftAlone : Type 0
 OthersAreLeftAlone =
-    (left : LeftOut) (act : Act) (done : Done) (c other : ℕ) (old new : Desktop) → client_of act done ≡ Some c
-    → Happens left act done old new → c ≢ other
+    (act : Act) (done : Done) (c other : ℕ) (old new : Desktop) → client_of act done ≡ Some c
+    → Happens act done old new → c ≢ other
     → IsLeftAlone other old new
 
 -- ---- a message that is refused
@@ -113,13 +112,13 @@ refusal_of (Ok demand) = None
 refusal_of (Err refusal) = Some refusal
 
 -- why the first message of what has come from a client is refused, if it is: for its header, or for what is judged of it
-abbrev pub refused_for : LeftOut → Split → Resident → Option Refusal
-refused_for left (Whole object opcode size) r = refusal_of (judge_all left r object opcode (take (size - 8) (drop 8 r.peer.rest)))
-refused_for left Bad r = Some (display_error InvalidMethod)
-refused_for left More r = None
+abbrev pub refused_for : Split → Resident → Option Refusal
+refused_for (Whole object opcode size) r = refusal_of (judge_all r object opcode (take (size - 8) (drop 8 r.peer.rest)))
+refused_for Bad r = Some (display_error InvalidMethod)
+refused_for More r = None
 
-abbrev pub first_refusal : LeftOut → Resident → Option Refusal
-first_refusal left r = refused_for left (split_of r.peer.rest) r
+abbrev pub first_refusal : Resident → Option Refusal
+first_refusal r = refused_for (split_of r.peer.rest) r
 
 -- A client has ended with this error, of which it was told, or with Slow or Memory where that event wasn't queued. Nothing is left of what
 -- it owned, and none of its toplevels stands.
@@ -127,12 +126,12 @@ abbrev pub HasErred : Refusal → ℕ → Resident → Desktop → Type 0
 HasErred refusal c r new = (q : Peer) × Errs refusal r.peer q × (client_at c new ≡ Some (resident_of q)) × (toplevels_of c new ≡ [])
 
 -- nothing more is taken of what came from a client: the piece that is being taken leads here
-abbrev pub IsTheLast : LeftOut → ℕ → Desktop → Type 0
-IsTheLast left c new = (n : ℕ) (mid end : Desktop) → Reaches left c n new mid → StopsAt c (client_at c mid) mid end → end ≡ new
+abbrev pub IsTheLast : ℕ → Desktop → Type 0
+IsTheLast c new = (n : ℕ) (mid end : Desktop) → Reaches c n new mid → StopsAt c (client_at c mid) mid end → end ≡ new
 
 -- A message that is refused ends its client with that error, is the last that is taken of that client, and leaves every other client alone.
 abbrev pub RefusedAlone : Type 0
 RefusedAlone =
-    (left : LeftOut) (c : ℕ) (r : Resident) (refusal : Refusal) (old new : Desktop) → client_at c old ≡ Some r
-    → first_refusal left r ≡ Some refusal
-    → Serves left c old new → HasErred refusal c r new × IsTheLast left c new × ((other : ℕ) → c ≢ other → IsLeftAlone other old new)
+    (c : ℕ) (r : Resident) (refusal : Refusal) (old new : Desktop) → client_at c old ≡ Some r
+    → first_refusal r ≡ Some refusal
+    → Serves c old new → HasErred refusal c r new × IsTheLast c new × ((other : ℕ) → c ≢ other → IsLeftAlone other old new)

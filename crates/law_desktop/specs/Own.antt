@@ -8,7 +8,6 @@ use Rattle.wl_shell.specs.Popups.{dismiss, popup_changed}
 use Rattle.wl_shell.specs.Shell.{Shell, XdgSurface}
 use Rattle.spec_desktop.specs.Stacking.{Standing}
 use Rattle.spec_desktop.specs.Desktop.{Desktop, Resident, client_at, resident_of, toplevels_of}
-use Rattle.spec_desktop.specs.LeftOut.{LeftOut}
 use Rattle.spec_desktop.specs.declared.answers.Done.{Done}
 use Rattle.spec_desktop.specs.Act.{Act}
 use Rattle.spec_desktop.specs.Happens.{Happens}
@@ -84,5 +83,5 @@ KeepsItsOwn c old new = KeepsItsOwnSo (client_at c old) (toplevels_of c old) (cl
 -- wasn't queued.
 abbrev pub OwnStays : Type 0
 OwnStays =
-    (left : LeftOut) (act : Act) (done : Done) (c : ℕ) (old new : Desktop) → client_of act done ≢ Some c → Happens left act done old new
+    (act : Act) (done : Done) (c : ℕ) (old new : Desktop) → client_of act done ≢ Some c → Happens act done old new
     → KeepsItsOwn c old new

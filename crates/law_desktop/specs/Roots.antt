@@ -12,7 +12,6 @@ use Rattle.wl_surface.specs.TreeLaws.{AreOnceLinked}
 use Rattle.spec_desktop.specs.declared.answers.Done.{Done}
 use Rattle.spec_desktop.specs.Act.{Act}
 use Rattle.spec_desktop.specs.Desktop.{Desktop, Resident, Subsurface, client_at, empty, owned_in}
-use Rattle.spec_desktop.specs.LeftOut.{LeftOut}
 use Rattle.spec_desktop.specs.WlSubsurface.{has_subsurface, is_of_child, subsurface_at}
 use Rattle.law_desktop.specs.Apart.{AreApartBy}
 use Rattle.law_desktop.specs.RunLaws.{Lasts}
@@ -21,7 +20,7 @@ use Rattle.law_desktop.specs.Soundness.{IsLive, IsNoChild}
 -- A surface that has an xdg_surface is no child by a link that lives.
 abbrev pub XdgSurfacesAreRoots : Type 0
 XdgSurfacesAreRoots =
-    (left : LeftOut) (output : Output) (acts : List Act) (dones : List Done) (d : Desktop) → Lasts left acts dones (empty output) d
+    (output : Output) (acts : List Act) (dones : List Done) (d : Desktop) → Lasts acts dones (empty output) d
     → (c surface : ℕ) → is_some (xdg_of surface (owned_in d c).shell) ≡ true → IsNoChild surface (owned_in d c).surfaces
 
 -- one of a client's wl_subsurfaces has this link, and names its child
@@ -35,14 +34,14 @@ pub record HasSubsurface (r : Resident) (number child : ℕ) : Type 0 where
 -- Each link of a client that lives is that of one of its wl_subsurfaces, which is live and names the link's child.
 abbrev pub LinksHaveSubsurfaces : Type 0
 LinksHaveSubsurfaces =
-    (left : LeftOut) (output : Output) (acts : List Act) (dones : List Done) (d : Desktop) → Lasts left acts dones (empty output) d
+    (output : Output) (acts : List Act) (dones : List Done) (d : Desktop) → Lasts acts dones (empty output) d
     → (c : ℕ) (r : Resident) → client_at c d ≡ Some r
     → (number : ℕ) (link : Link) → IsLive number link r.owned.surfaces → HasSubsurface r number link.child
 
 -- The links of a client are told apart by their numbers, and those that live by their children.
 abbrev pub LinksAreApart : Type 0
 LinksAreApart =
-    (left : LeftOut) (output : Output) (acts : List Act) (dones : List Done) (d : Desktop) → Lasts left acts dones (empty output) d
+    (output : Output) (acts : List Act) (dones : List Done) (d : Desktop) → Lasts acts dones (empty output) d
     → (c : ℕ) → AreNumbered (owned_in d c).surfaces.links × AreOnceLinked (owned_in d c).surfaces.links
 
 -- no two of a client's wl_subsurfaces have the same id, the same link or the same surface; no link has a number past that of the last
@@ -58,5 +57,5 @@ pub record AreOwnSubsurfaces (r : Resident) : Type 0 where
 -- and each is named by those of its parent, which is there; and no more counts than was committed (wayland.xml, wl_subsurface).
 abbrev pub SurfacesAreTied : Type 0
 SurfacesAreTied =
-    (left : LeftOut) (output : Output) (acts : List Act) (dones : List Done) (d : Desktop) → Lasts left acts dones (empty output) d
+    (output : Output) (acts : List Act) (dones : List Done) (d : Desktop) → Lasts acts dones (empty output) d
     → (c : ℕ) → AreTied (owned_in d c).surfaces

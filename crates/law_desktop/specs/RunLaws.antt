@@ -1,4 +1,4 @@
--- Laws of the plain desktop whatever is left out: only that memory may run out leaves a choice, and an end is for good.
+-- Laws of the plain desktop: only that memory may run out leaves a choice, and an end is for good.
 use Rattle.std.specs.Prelude.{ℕ, ◌≡◌, ◌≢◌, ◌≤◌, List, [], ◌∷◌, length, Some, Err}
 use Rattle.spec_desktop.specs.declared.cause.Cause.{Cause}
 use Rattle.spec_desktop.specs.declared.cause.Cause.TheVariants as cause
@@ -7,7 +7,6 @@ use Rattle.spec_desktop.specs.declared.answers.Done.{Done}
 use Rattle.spec_desktop.specs.declared.answers.Done.TheVariants as gave
 use Rattle.law_desktop.specs.Ample.{happened}
 use Rattle.spec_desktop.specs.Desktop.{Desktop, status_in}
-use Rattle.spec_desktop.specs.LeftOut.{LeftOut}
 use Rattle.spec_desktop.specs.Act.{Act, Close, Connect}
 use Rattle.spec_desktop.specs.Happens.{Happens}
 
@@ -22,40 +21,40 @@ HadMemory act done old new =
 -- choice).
 abbrev pub OneRun : Type 0
 OneRun =
-    (left : LeftOut) (act : Act) (done other : Done) (old new end : Desktop) → length old.clients ≤ 32 → Happens left act done old new
-    → Happens left act other old end
+    (act : Act) (done other : Done) (old new end : Desktop) → length old.clients ≤ 32 → Happens act done old new
+    → Happens act other old end
     → HadMemory act done old new → HadMemory act other old end → (done ≡ other) × (new ≡ end)
 
 -- acts one after another, each with its answer
-abbrev pub Lasts : LeftOut → List Act → List Done → Desktop → Desktop → Type 0
-Lasts left [] [] old new = new ≡ old
-Lasts left [] (done ∷ dones) old new = ⊥
-Lasts left (act ∷ acts) [] old new = ⊥
-Lasts left (act ∷ acts) (done ∷ dones) old new = (mid : Desktop) × Happens left act done old mid × Lasts left acts dones mid new
+abbrev pub Lasts : List Act → List Done → Desktop → Desktop → Type 0
+Lasts [] [] old new = new ≡ old
+Lasts [] (done ∷ dones) old new = ⊥
+Lasts (act ∷ acts) [] old new = ⊥
+Lasts (act ∷ acts) (done ∷ dones) old new = (mid : Desktop) × Happens act done old mid × Lasts acts dones mid new
 
 -- none of them ran out of memory
-abbrev pub HadMemoryAll : (left : LeftOut) → (acts : List Act) → (dones : List Done) → (old new : Desktop) → Lasts left acts dones old new
+abbrev pub HadMemoryAll : (acts : List Act) → (dones : List Done) → (old new : Desktop) → Lasts acts dones old new
     → Type 0
-HadMemoryAll left [] [] old new run = Unit {0}
-HadMemoryAll left [] (done ∷ dones) old new run = ⊥
-HadMemoryAll left (act ∷ acts) [] old new run = ⊥
-HadMemoryAll left (act ∷ acts) (done ∷ dones) old new run = HadMemory act done old run.0 × HadMemoryAll left acts dones run.0 new run.2
+HadMemoryAll [] [] old new run = Unit {0}
+HadMemoryAll [] (done ∷ dones) old new run = ⊥
+HadMemoryAll (act ∷ acts) [] old new run = ⊥
+HadMemoryAll (act ∷ acts) (done ∷ dones) old new run = HadMemory act done old run.0 × HadMemoryAll acts dones run.0 new run.2
 
 -- The same of a list of acts: it has at most one run that doesn't run out of memory, with its answers.
 abbrev pub OnlyRun : Type 0
 OnlyRun =
-    (left : LeftOut) (acts : List Act) (dones others : List Done) (old new end : Desktop) → length old.clients ≤ 32
-    → (run : Lasts left acts dones old new)
-    → (other : Lasts left acts others old end) → HadMemoryAll left acts dones old new run → HadMemoryAll left acts others old end other
+    (acts : List Act) (dones others : List Done) (old new end : Desktop) → length old.clients ≤ 32
+    → (run : Lasts acts dones old new)
+    → (other : Lasts acts others old end) → HadMemoryAll acts dones old new run → HadMemoryAll acts others old end other
     → (dones ≡ others) × (new ≡ end)
 
 -- A client that ended stays so, for the same cause, until its number is given back.
 abbrev pub EndsStay : Type 0
 EndsStay =
-    (left : LeftOut) (act : Act) (done : Done) (old new : Desktop) (c : ℕ) (why : Cause) → length old.clients ≤ 32
-    → Happens left act done old new → act ≢ Close c
+    (act : Act) (done : Done) (old new : Desktop) (c : ℕ) (why : Cause) → length old.clients ≤ 32
+    → Happens act done old new → act ≢ Close c
     → status_in c old ≡ Some why → status_in c new ≡ Some why
 
 -- Whatever is asked of a desktop may happen: with memory it leads where the function says, with an answer.
 abbrev pub MayHappen : Type 0
-MayHappen = (left : LeftOut) (act : Act) (d : Desktop) → (answer : Done) × Happens left act answer d (happened left act d)
+MayHappen = (act : Act) (d : Desktop) → (answer : Done) × Happens act answer d (happened act d)

@@ -1,4 +1,4 @@
--- Which toplevels stand wherever nobody points, with popups and whatever is left out: just those that are mapped. A mapped surface shows a
+-- Which toplevels stand wherever nobody points, with popups: just those that are mapped. A mapped surface shows a
 -- buffer, be it a toplevel's or a popup's. Each step keeps it, and each message by itself.
 use Rattle.std.specs.Prelude.{ℕ, ◌≡◌, Some, List}
 use Rattle.spec_desktop.specs.declared.cause.Cause.{Cause}
@@ -9,7 +9,6 @@ use Rattle.spec_desktop.specs.Act.{Act}
 use Rattle.spec_desktop.specs.Desktop.{Desktop, Resident, client_at, empty, with_client}
 use Rattle.spec_desktop.specs.Framing.{FramesToldAt}
 use Rattle.spec_desktop.specs.Happens.{Happens, Serves}
-use Rattle.spec_desktop.specs.LeftOut.{LeftOut}
 use Rattle.spec_desktop.specs.Settling.{EndsAndSettles, becomes, unstruck}
 use Rattle.spec_desktop.specs.Step.{with_peer}
 use Rattle.law_desktop.specs.Acts.{LeavesPointer}
@@ -23,12 +22,12 @@ EmptyIsShown = (output : Output) → ShownStand (empty output)
 -- Whatever happens that leaves the pointer alone keeps it.
 abbrev pub ShownStays : Type 0
 ShownStays =
-    (left : LeftOut) (act : Act) (done : Done) (d e : Desktop) → LeavesPointer act → InOrder d → ShownStand d → Happens left act done d e
+    (act : Act) (done : Done) (d e : Desktop) → LeavesPointer act → InOrder d → ShownStand d → Happens act done d e
     → ShownStand e
 
 -- So does one message of a client.
 abbrev pub MessagesKeepShown : Type 0
-MessagesKeepShown = (left : LeftOut) (c : ℕ) (d e : Desktop) → InOrder d → ShownStand d → Serves left c d e → ShownStand e
+MessagesKeepShown = (c : ℕ) (d e : Desktop) → InOrder d → ShownStand d → Serves c d e → ShownStand e
 
 -- So does what is kept of the stream of a client that is there, before its messages are taken.
 abbrev pub PiecesKeepShown : Type 0

@@ -10,7 +10,6 @@ use Rattle.spec_desktop.specs.Windows.{StackedPopup}
 use Rattle.spec_desktop.specs.declared.answers.Done.{Done}
 use Rattle.spec_desktop.specs.Desktop.{Desktop, empty, owned_in}
 use Rattle.law_desktop.specs.Laws.{AreApart}
-use Rattle.spec_desktop.specs.LeftOut.{LeftOut}
 use Rattle.spec_desktop.specs.Marks.{AreDistinct}
 use Rattle.spec_desktop.specs.Popups.{stacked_popups}
 use Rattle.spec_desktop.specs.Stacked.{all_windows}
@@ -75,5 +74,5 @@ EmptyIsSound = (output : Output) → IsSound (empty output)
 -- Whatever happens from a desktop without clients on, the desktop is sound.
 abbrev pub RunIsSound : Type 0
 RunIsSound =
-    (left : LeftOut) (output : Output) (acts : List Act) (dones : List Done) (d : Desktop) → Lasts left acts dones (empty output) d
+    (output : Output) (acts : List Act) (dones : List Done) (d : Desktop) → Lasts acts dones (empty output) d
     → IsSound d

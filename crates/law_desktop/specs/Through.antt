@@ -3,7 +3,6 @@ use Rattle.std.specs.Prelude.{ℕ, ◌≡◌, List}
 use Rattle.spec_desktop.specs.Act.{Act, Feed}
 use Rattle.spec_desktop.specs.Desktop.{Desktop}
 use Rattle.spec_desktop.specs.Happens.{Happens, Serves}
-use Rattle.spec_desktop.specs.LeftOut.{LeftOut}
 use Rattle.spec_desktop.specs.Through.{HappensThrough, ServesThrough}
 use Rattle.spec_desktop.specs.declared.answers.Done.{Done}
 
@@ -14,13 +13,13 @@ IsSingle act = (c : ℕ) (piece : List ℕ) → act ≡ Feed c piece → ⊥
 -- A message leads where it leads with the desktops on the way, and these are there.
 abbrev pub MessagesLeadThrough : Type 0
 MessagesLeadThrough =
-    (left : LeftOut) (c : ℕ) (d new : Desktop)
-    → ((path : List Desktop) → ServesThrough left c d path new → Serves left c d new)
-    × (Serves left c d new → (path : List Desktop) × ServesThrough left c d path new)
+    (c : ℕ) (d new : Desktop)
+    → ((path : List Desktop) → ServesThrough c d path new → Serves c d new)
+    × (Serves c d new → (path : List Desktop) × ServesThrough c d path new)
 
 -- So does whatever else happens.
 abbrev pub HappensLeadsThrough : Type 0
 HappensLeadsThrough =
-    (left : LeftOut) (act : Act) (done : Done) (d new : Desktop)
-    → ((path : List Desktop) → HappensThrough left act done d path new → Happens left act done d new)
-    × (IsSingle act → Happens left act done d new → (path : List Desktop) × HappensThrough left act done d path new)
+    (act : Act) (done : Done) (d new : Desktop)
+    → ((path : List Desktop) → HappensThrough act done d path new → Happens act done d new)
+    × (IsSingle act → Happens act done d new → (path : List Desktop) × HappensThrough act done d path new)

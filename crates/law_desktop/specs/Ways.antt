@@ -13,7 +13,6 @@ use Rattle.spec_desktop.specs.Demand.{Demand}
 use Rattle.spec_desktop.specs.Demanding.{judge_all}
 use Rattle.spec_desktop.specs.Desktop.{Desktop, Resident, become, owned_in, status_in}
 use Rattle.spec_desktop.specs.Happens.{wants_memory}
-use Rattle.spec_desktop.specs.LeftOut.{LeftOut}
 use Rattle.spec_desktop.specs.Replies.{replies}
 use Rattle.spec_desktop.specs.Stacked.{all_windows}
 use Rattle.spec_desktop.specs.Step.{with_peer}
@@ -29,27 +28,27 @@ abbrev pub Becomes : (Peer → Type 0) → ℕ → Resident → Desktop → Desk
 Becomes Q c r d new = (q : Peer) × Q q × (new ≡ become c r q d)
 
 -- what is demanded is done, and the client is told
-abbrev pub DoesAlone : LeftOut → Demand → ℕ → Resident → Desktop → Desktop → Type 0
-DoesAlone left demand c r d new =
-    Becomes (Queues (replies left c demand r (changed_for c demand r d) (all_windows d) d) (changed_for c demand r d).peer) c
+abbrev pub DoesAlone : Demand → ℕ → Resident → Desktop → Desktop → Type 0
+DoesAlone demand c r d new =
+    Becomes (Queues (replies c demand r (changed_for c demand r d) (all_windows d) d) (changed_for c demand r d).peer) c
     (changed_for c demand r d) (stacked_for c demand r (all_windows d) d) new
 
 -- true: what it demands is done, and its client is told, which may end it; false: there was no memory for it, or it is refused
-abbrev pub AnswersAs : LeftOut → Bool → Result Demand Refusal → ℕ → Resident → Desktop → Desktop → Type 0
-AnswersAs left true (Ok demand) c r d new = DoesAlone left demand c (with_peer (counted r.peer) r) d new
-AnswersAs left false (Ok demand) c r d new =
+abbrev pub AnswersAs : Bool → Result Demand Refusal → ℕ → Resident → Desktop → Desktop → Type 0
+AnswersAs true (Ok demand) c r d new = DoesAlone demand c (with_peer (counted r.peer) r) d new
+AnswersAs false (Ok demand) c r d new =
     (wants_memory demand ≡ true) × Becomes (LacksMemory (counted r.peer)) c (with_peer (counted r.peer) r) d new
-AnswersAs left true (Err refusal) c r d new = ⊥
-AnswersAs left false (Err refusal) c r d new = Becomes (Errs refusal r.peer) c r d new
+AnswersAs true (Err refusal) c r d new = ⊥
+AnswersAs false (Err refusal) c r d new = Becomes (Errs refusal r.peer) c r d new
 
 -- the first message of what has come is taken so
-abbrev pub TakesAs : LeftOut → Bool → Split → ℕ → Resident → Desktop → Desktop → Type 0
-TakesAs left b (Whole object opcode size) c r d new =
-    AnswersAs left b (judge_all left r object opcode (take (size - 8) (drop 8 r.peer.rest))) c
+abbrev pub TakesAs : Bool → Split → ℕ → Resident → Desktop → Desktop → Type 0
+TakesAs b (Whole object opcode size) c r d new =
+    AnswersAs b (judge_all r object opcode (take (size - 8) (drop 8 r.peer.rest))) c
     (with_peer (with_rest (drop size r.peer.rest) r.peer) r) d new
-TakesAs left true Bad c r d new = ⊥
-TakesAs left false Bad c r d new = Becomes (Errs (display_error InvalidMethod) r.peer) c r d new
-TakesAs left b More c r d new = ⊥
+TakesAs true Bad c r d new = ⊥
+TakesAs false Bad c r d new = Becomes (Errs (display_error InvalidMethod) r.peer) c r d new
+TakesAs b More c r d new = ⊥
 
 -- ---- a client that ended
 
@@ -64,9 +63,9 @@ pub record IsGone (c : ℕ) (d e : Desktop) : Type 0 where
 
 -- An event for it wasn't queued: what the message demands is done, which leads to a desktop on which its client still lives; then that
 -- ends, and nothing is to be settled.
-pub record Struck (left : LeftOut) (c : ℕ) (r : Resident) (d : Desktop) (path : List Desktop) (e : Desktop) : Type 0 where
+pub record Struck (c : ℕ) (r : Resident) (d : Desktop) (path : List Desktop) (e : Desktop) : Type 0 where
   pub demand : Demand
-  pub demanded : IsDemanded left (split_of r.peer.rest) r demand
+  pub demanded : IsDemanded (split_of r.peer.rest) r demand
   pub meant : IsMeant demand r
   -- the peer of which it is demanded: its bytes are taken, and its request is counted
   pub before : Peer
@@ -86,6 +85,6 @@ pub record Struck (left : LeftOut) (c : ℕ) (r : Resident) (d : Desktop) (path 
 
 -- A message that was refused, or for which there was no memory, leads at once to a desktop on which its client has ended. One that was done
 -- leads at once to one on which it lives, or its client was struck.
-abbrev pub RouteBy : LeftOut → Bool → ℕ → Resident → Desktop → List Desktop → Desktop → Type 0
-RouteBy left false c r d path e = (path ≡ e ∷ e ∷ []) × (is_some (status_in c e) ≡ true)
-RouteBy left true c r d path e = ((path ≡ e ∷ e ∷ []) × (status_in c e ≡ None)) ⊎ Struck left c r d path e
+abbrev pub RouteBy : Bool → ℕ → Resident → Desktop → List Desktop → Desktop → Type 0
+RouteBy false c r d path e = (path ≡ e ∷ e ∷ []) × (is_some (status_in c e) ≡ true)
+RouteBy true c r d path e = ((path ≡ e ∷ e ∷ []) × (status_in c e ≡ None)) ⊎ Struck c r d path e

@@ -9,7 +9,6 @@ use Rattle.spec_desktop.specs.Act.{Leave}
 use Rattle.spec_desktop.specs.Desktop.{Desktop, Resident, client_at, status_in}
 use Rattle.spec_desktop.specs.Framing.{FramesToldAt}
 use Rattle.spec_desktop.specs.Happens.{Happens, Serves}
-use Rattle.spec_desktop.specs.LeftOut.{LeftOut}
 use Rattle.spec_desktop.specs.Marks.{in_output}
 use Rattle.spec_desktop.specs.Moments.{marks_at_least, marks_at_least_through, marks_at_most, marks_at_most_through}
 use Rattle.spec_desktop.specs.Settling.{EndsAndSettles, becomes, unstruck}
@@ -26,22 +25,22 @@ use Rattle.law_desktop.specs.Ways.{IsGone, RouteBy, Struck, TakesAs}
 -- A living client's message leads to the last desktop at once, or by one on which it is done, where an unqueued event ends the client.
 abbrev pub MessagesLeadSo : Type 0
 MessagesLeadSo =
-    (left : LeftOut) (b : Bool) (c : ℕ) (r : Resident) (d e : Desktop) → InOrder d → ShownStand d → client_at c d ≡ Some r
-    → r.peer.status ≡ None → TakesAs left b (split_of r.peer.rest) c r d e
-    → (path : List Desktop) × ServesThrough left c d path e × RouteBy left b c r d path e
+    (b : Bool) (c : ℕ) (r : Resident) (d e : Desktop) → InOrder d → ShownStand d → client_at c d ≡ Some r
+    → r.peer.status ≡ None → TakesAs b (split_of r.peer.rest) c r d e
+    → (path : List Desktop) × ServesThrough c d path e × RouteBy b c r d path e
 
 -- So it is served.
 abbrev pub MessagesAreServed : Type 0
 MessagesAreServed =
-    (left : LeftOut) (b : Bool) (c : ℕ) (r : Resident) (d e : Desktop) → InOrder d → client_at c d ≡ Some r → r.peer.status ≡ None
-    → TakesAs left b (split_of r.peer.rest) c r d e → Serves left c d e
+    (b : Bool) (c : ℕ) (r : Resident) (d e : Desktop) → InOrder d → client_at c d ≡ Some r → r.peer.status ≡ None
+    → TakesAs b (split_of r.peer.rest) c r d e → Serves c d e
 
 -- ---- a client that ends
 
 -- By a message of its own: it was told an error, or not all that it was to be told was queued, or there was no memory.
 abbrev pub EndedIsGone : Type 0
 EndedIsGone =
-    (left : LeftOut) (c : ℕ) (r : Resident) (d e : Desktop) → InOrder d → client_at c d ≡ Some r → Serves left c d e
+    (c : ℕ) (r : Resident) (d e : Desktop) → InOrder d → client_at c d ≡ Some r → Serves c d e
     → is_some (status_in c e) ≡ true → IsGone c d e
 
 -- By itself, as where there is no memory for what it sent.
@@ -57,7 +56,7 @@ UntoldIsGone =
 
 -- As it leaves, whether it was there and lived, or not.
 abbrev pub LeftIsGone : Type 0
-LeftIsGone = (left : LeftOut) (c : ℕ) (done : Done) (d e : Desktop) → InOrder d → Happens left (Leave c) done d e → IsGone c d e
+LeftIsGone = (c : ℕ) (done : Done) (d e : Desktop) → InOrder d → Happens (Leave c) done d e → IsGone c d e
 
 -- ---- the windows of a client that ended
 
@@ -89,7 +88,7 @@ TwiceMarks =
 -- On one on which a client was struck: what the message's own change marks, and the windows that its client had then.
 abbrev pub StruckMarks : Type 0
 StruckMarks =
-    (left : LeftOut) (c : ℕ) (r : Resident) (d : Desktop) (path : List Desktop) (e : Desktop) (s : Struck left c r d path e) → HasTrees e
+    (c : ℕ) (r : Resident) (d : Desktop) (path : List Desktop) (e : Desktop) (s : Struck c r d path e) → HasTrees e
     → (x y : ℤ)
     → (marks_at_least_through all_windows d path x y ≡ true
     → (marks_at_least d s.own x y ≡ true) ⊎ (has_window_at c x y s.own ≡ true))

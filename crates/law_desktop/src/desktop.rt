@@ -42,7 +42,7 @@ pub fn scratch_stays()
     ensures { ScratchStays }
 {}
 
-/// Whatever is left out, a step of a client's leaves every other client as it was, but for what that is told of the pointer's focus.
+/// A step of a client's leaves every other client as it was, but for what that is told of the pointer's focus.
 pub fn others_are_left_alone()
     ensures { OthersAreLeftAlone }
 {}
@@ -63,7 +63,7 @@ pub fn may_happen()
     ensures { MayHappen }
 {}
 
-/// Whatever is left out, what happens is determined with its answer, unless memory runs out.
+/// What happens is determined with its answer, unless memory runs out.
 pub fn one_run()
     ensures { OneRun }
 {}
@@ -73,7 +73,7 @@ pub fn only_run()
     ensures { OnlyRun }
 {}
 
-/// A client's stream may be cut into any pieces: two pieces lead where they lead as one, whatever is left out.
+/// A client's stream may be cut into any pieces: two pieces lead where they lead as one.
 pub fn any_pieces()
     ensures { AnyPieces }
 {}

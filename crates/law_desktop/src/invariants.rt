@@ -1,11 +1,10 @@
-//! The laws of the desktop where nobody points: what holds of every desktop that comes about, with subsurfaces and with popups
-//! and whatever is left out; and what a step marks and leaves that changes one tree of surfaces. Each law is a function that
+//! The laws of the desktop where nobody points: what holds of every desktop that comes about, with subsurfaces and with popups;
+//! and what a step marks and leaves that changes one tree of surfaces. Each law is a function that
 //! promises it.
 
 mod in_order;
 mod nobody_points;
 mod one_buffer;
-mod records;
 mod shown;
 mod tree_buffers;
 mod tree_marks;
@@ -23,7 +22,6 @@ pub use nobody_points::{
     grabs_dismiss, messages_keep_unpointed, pieces_keep_unpointed, unpointed_stays,
 };
 pub use one_buffer::{arrival_has_one_buffer, happens_keeps_one_buffer, run_has_one_buffer};
-pub use records::served_alone;
 pub use shown::{
     empty_is_shown, ends_keep_shown, frames_keep_shown, messages_keep_shown, pieces_keep_shown,
     shown_stays,

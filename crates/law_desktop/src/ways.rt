@@ -1,4 +1,4 @@
-//! The ways on which a message of a client leads wherever the pointer is put aside, whatever is left out: at once to the last desktop, or by
+//! The ways on which a message of a client leads wherever the pointer is put aside: at once to the last desktop, or by
 //! one on which its client still lives that was struck; and what is marked where a client ends. Each law is a function that promises it.
 
 ghost use Rattle.law_desktop.specs.WaysLaws.{EndIsGone, EndedIsGone, GoneMarksLeast, GoneMarksMost, GoneWindows, LeftIsGone, MessagesAreServed};

@@ -4,8 +4,8 @@ use Rattle.std.specs.Prelude.{◌==◌, cond, flat_map, fold, not}
 use Rattle.std.specs.List.{list_any}
 use Rattle.std.proofs.lemmas.Grind.{flat_map-append}
 use Rattle.std.proofs.lemmas.List.{append-nil}
-use Rattle.wl_surface.specs.Request.{Member, Itself, Child, Request, Attach, Damage, Frame, SetOpaqueRegion, SetInputRegion, SetBufferTransform, SetWindowGeometry, Commit, AddChild}
-use Rattle.wl_surface.specs.Request.{DamageBuffer, SetBufferScale, SetPosition, PlaceAbove, PlaceBelow}
+use Rattle.wl_surface.specs.Request.{Member, Itself, Child, Request, AddChild}
+use Rattle.wl_surface.specs.Request.{PlaceAbove, PlaceBelow}
 use Rattle.wl_surface.specs.State.{History, above, below, is_member, order, ordered, without}
 use Rattle.wl_surface.specs.Surfaces.{Surfaces}
 use Rattle.spec_desktop.specs.Windows.{Owner, Place, Window, member_windows}
@@ -52,17 +52,7 @@ ordered-same f none xs (PlaceAbove l at) =
     either-same f (list_any (is_member at) (without (Child l) xs)) xs (above (Child l) at (without (Child l) xs)) (above-same f none l at (without (Child l) xs) ∙ without-same f none l xs)
 ordered-same f none xs (PlaceBelow l at) =
     either-same f (list_any (is_member at) (without (Child l) xs)) xs (below (Child l) at (without (Child l) xs)) (below-same f none l at (without (Child l) xs) ∙ without-same f none l xs)
-ordered-same f none xs (Attach buffer x y) = refl
-ordered-same f none xs (Damage rect) = refl
-ordered-same f none xs (DamageBuffer rect) = refl
-ordered-same f none xs (Frame number) = refl
-ordered-same f none xs (SetOpaqueRegion region) = refl
-ordered-same f none xs (SetInputRegion region) = refl
-ordered-same f none xs (SetBufferTransform transform) = refl
-ordered-same f none xs (SetBufferScale scale) = refl
-ordered-same f none xs (SetWindowGeometry rect) = refl
-ordered-same f none xs Commit = refl
-ordered-same f none xs (SetPosition l x y) = refl
+ordered-same f none xs r = refl
 
 all-same : {X : Type 0} (f : Member → List X) → ChildrenGiveNone f → (xs : List Member) (rs : List Request) → flat_map f (fold ordered xs rs) ≡ flat_map f xs
 all-same f none xs [] = refl

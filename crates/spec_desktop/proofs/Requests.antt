@@ -48,16 +48,14 @@ of-wl_display (display.GetRegistry id) = refl
 
 pub of-wl_region : (request : WlRegionRequest) → request_of (wl_region_request request) ≡ ToRegion request
 of-wl_region region.Destroy = refl
-of-wl_region (region.Add x y width height) = refl
-of-wl_region (region.Subtract x y width height) = refl
+of-wl_region request = refl
 
 pub of-wl_shm : (request : WlShmRequest) → request_of (wl_shm_request request) ≡ ToShm request
 of-wl_shm (shm.CreatePool id size) = refl
 
 pub of-wl_shm_pool : (request : WlShmPoolRequest) → request_of (wl_shm_pool_request request) ≡ ToPool request
 of-wl_shm_pool (pool.CreateBuffer id offset width height stride format) = refl
-of-wl_shm_pool pool.Destroy = refl
-of-wl_shm_pool (pool.Resize size) = refl
+of-wl_shm_pool request = refl
 
 pub of-wl_buffer : (request : WlBufferRequest) → request_of (wl_buffer_request request) ≡ ToBuffer request
 of-wl_buffer buffer.Destroy = refl
@@ -75,15 +73,7 @@ of-wl_compositor (compositor.CreateRegion id) = refl
 
 pub of-wl_surface : (request : WlSurfaceRequest) → request_of (wl_surface_request request) ≡ ToSurface request
 of-wl_surface surface.Destroy = refl
-of-wl_surface (surface.Attach buffer x y) = refl
-of-wl_surface (surface.Damage x y width height) = refl
-of-wl_surface (surface.Frame callback) = refl
-of-wl_surface (surface.SetOpaqueRegion region) = refl
-of-wl_surface (surface.SetInputRegion region) = refl
-of-wl_surface surface.Commit = refl
-of-wl_surface (surface.SetBufferTransform transform) = refl
-of-wl_surface (surface.SetBufferScale scale) = refl
-of-wl_surface (surface.DamageBuffer x y width height) = refl
+of-wl_surface request = refl
 
 pub of-wl_subcompositor : (request : WlSubcompositorRequest) → request_of (wl_subcompositor_request request) ≡ ToSubcompositor request
 of-wl_subcompositor subcompositor.Destroy = refl
@@ -91,49 +81,30 @@ of-wl_subcompositor (subcompositor.GetSubsurface id child parent) = refl
 
 pub of-wl_subsurface : (request : WlSubsurfaceRequest) → request_of (wl_subsurface_request request) ≡ ToSubsurface request
 of-wl_subsurface subsurface.Destroy = refl
-of-wl_subsurface (subsurface.SetPosition x y) = refl
-of-wl_subsurface (subsurface.PlaceAbove sibling) = refl
-of-wl_subsurface (subsurface.PlaceBelow sibling) = refl
-of-wl_subsurface subsurface.SetSync = refl
-of-wl_subsurface subsurface.SetDesync = refl
+of-wl_subsurface request = refl
 
 pub of-wl_seat : (request : WlSeatRequest) → request_of (wl_seat_request request) ≡ ToSeat request
 of-wl_seat (seat.GetPointer id) = refl
-of-wl_seat (seat.GetKeyboard id) = refl
-of-wl_seat (seat.GetTouch id) = refl
+of-wl_seat request = refl
 
 pub of-wl_pointer : (request : WlPointerRequest) → request_of (wl_pointer_request request) ≡ ToPointer request
 of-wl_pointer (pointer.SetCursor serial surface x y) = refl
 
 pub of-xdg_wm_base : (request : XdgWmBaseRequest) → request_of (xdg_wm_base_request request) ≡ ToBase request
 of-xdg_wm_base base.Destroy = refl
-of-xdg_wm_base (base.CreatePositioner id) = refl
-of-xdg_wm_base (base.GetXdgSurface id surface) = refl
-of-xdg_wm_base (base.Pong serial) = refl
+of-xdg_wm_base request = refl
 
 pub of-xdg_positioner : (request : XdgPositionerRequest) → request_of (xdg_positioner_request request) ≡ ToPositioner request
 of-xdg_positioner positioner.Destroy = refl
-of-xdg_positioner (positioner.SetSize width height) = refl
-of-xdg_positioner (positioner.SetAnchorRect x y width height) = refl
-of-xdg_positioner (positioner.SetAnchor anchor) = refl
-of-xdg_positioner (positioner.SetGravity gravity) = refl
-of-xdg_positioner (positioner.SetConstraintAdjustment adjustment) = refl
-of-xdg_positioner (positioner.SetOffset x y) = refl
-of-xdg_positioner positioner.SetReactive = refl
-of-xdg_positioner (positioner.SetParentSize width height) = refl
-of-xdg_positioner (positioner.SetParentConfigure serial) = refl
+of-xdg_positioner request = refl
 
 pub of-xdg_surface : (request : XdgSurfaceRequest) → request_of (xdg_surface_request request) ≡ ToXdgSurface request
 of-xdg_surface xdg.Destroy = refl
-of-xdg_surface (xdg.GetToplevel id) = refl
-of-xdg_surface (xdg.GetPopup id parent positioner) = refl
-of-xdg_surface (xdg.SetWindowGeometry x y width height) = refl
-of-xdg_surface (xdg.AckConfigure serial) = refl
+of-xdg_surface request = refl
 
 pub of-xdg_popup : (request : XdgPopupRequest) → request_of (xdg_popup_request request) ≡ ToPopup request
 of-xdg_popup popup.Destroy = refl
-of-xdg_popup (popup.Grab seat serial) = refl
-of-xdg_popup (popup.Reposition positioner token) = refl
+of-xdg_popup request = refl
 
 -- by the bytes of its texts
 abbrev pub bare : XdgToplevelRequest → ToplevelRequest
@@ -154,16 +125,4 @@ bare xdg_toplevel.SetMinimized = toplevel.SetMinimized
 
 pub of-xdg_toplevel : (request : XdgToplevelRequest) → request_of (xdg_toplevel_request request) ≡ ToToplevel (bare request)
 of-xdg_toplevel xdg_toplevel.Destroy = refl
-of-xdg_toplevel (xdg_toplevel.SetParent parent) = refl
-of-xdg_toplevel (xdg_toplevel.SetTitle title) = refl
-of-xdg_toplevel (xdg_toplevel.SetAppId app_id) = refl
-of-xdg_toplevel (xdg_toplevel.ShowWindowMenu seat serial x y) = refl
-of-xdg_toplevel (xdg_toplevel.Move seat serial) = refl
-of-xdg_toplevel (xdg_toplevel.Resize seat serial edges) = refl
-of-xdg_toplevel (xdg_toplevel.SetMaxSize width height) = refl
-of-xdg_toplevel (xdg_toplevel.SetMinSize width height) = refl
-of-xdg_toplevel xdg_toplevel.SetMaximized = refl
-of-xdg_toplevel xdg_toplevel.UnsetMaximized = refl
-of-xdg_toplevel (xdg_toplevel.SetFullscreen output) = refl
-of-xdg_toplevel xdg_toplevel.UnsetFullscreen = refl
-of-xdg_toplevel xdg_toplevel.SetMinimized = refl
+of-xdg_toplevel request = refl

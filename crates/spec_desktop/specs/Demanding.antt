@@ -22,7 +22,6 @@ use Rattle.wl_shell.specs.Shell.{xdg_with}
 use Rattle.spec_desktop.specs.Ask.{Ask, AskSurface, Ignore, owns}
 use Rattle.spec_desktop.specs.Demand.{Demand, Asks, EndSurface, AskFrame, CommitTree, EndToplevel, Move}
 use Rattle.spec_desktop.specs.Desktop.{Resident}
-use Rattle.spec_desktop.specs.LeftOut.{LeftOut}
 use Rattle.spec_desktop.specs.Requests.{Request, ToCompositor, ToSurface, ToSubcompositor, ToSubsurface, ToSeat, ToPointer, ToBase}
 use Rattle.spec_desktop.specs.Requests.{ToXdgSurface, ToToplevel, ToPopup, request_of, rect}
 use Rattle.spec_desktop.specs.ToplevelRequest.{ToplevelRequest}
@@ -156,11 +155,10 @@ demand_by (ToToplevel request) r object version = toplevel_demand r object reque
 demand_by (ToPopup request) r object version = popup_demand r object request
 demand_by request r object version = own_demand r object version request
 
--- a request that is left out is refused as a limit would be
-abbrev pub demand_of : LeftOut → Resident → ℕ → ℕ → Message → Result Demand Refusal
-demand_of left r object version m = if left.requests (request_of m) then past_limit else demand_by (request_of m) r object version
+abbrev pub demand_of : Resident → ℕ → ℕ → Message → Result Demand Refusal
+demand_of r object version m = demand_by (request_of m) r object version
 
 -- what a message to an object asks, or the first error that it has
-abbrev pub judge_all : LeftOut → Resident → ℕ → ℕ → List ℕ → Result Demand Refusal
-judge_all left r object opcode body =
-    judged_at r.peer.objects r.peer.held (λ version m. demand_of left r object version m) opcode body (r.peer.objects object)
+abbrev pub judge_all : Resident → ℕ → ℕ → List ℕ → Result Demand Refusal
+judge_all r object opcode body =
+    judged_at r.peer.objects r.peer.held (λ version m. demand_of r object version m) opcode body (r.peer.objects object)

@@ -5,7 +5,6 @@ use Rattle.spec_desktop.specs.declared.cause.Cause.TheVariants as cause
 use Rattle.spec_desktop.specs.Peer.{IsIdle, ended, with_rest}
 use Rattle.spec_desktop.specs.declared.answers.Done.{Done}
 use Rattle.spec_desktop.specs.Desktop.{Desktop, Resident, client_at, with_client}
-use Rattle.spec_desktop.specs.LeftOut.{LeftOut}
 use Rattle.spec_desktop.specs.Settling.{becomes, unstruck}
 use Rattle.spec_desktop.specs.Step.{with_peer}
 use Rattle.spec_desktop.specs.Act.{Act}
@@ -31,16 +30,16 @@ StarvesAt c None d path new = ⊥
 StarvesAt c (Some r) d path new = (r.peer.status ≡ None) × settling_through path new (unstruck (becomes c r (ended cause.Memory r.peer) d))
 
 -- One happening leads from a desktop through these to the last.
-abbrev pub Leads : LeftOut → Happening → Desktop → List Desktop → Desktop → Type 0
-Leads left (Receive c piece) d path new = ReceivesAt c piece (client_at c d) d path new
-Leads left (Message c) d path new = ServesThrough left c d path new
-Leads left (Starve c) d path new = StarvesAt c (client_at c d) d path new
-Leads left (Single act done) d path new = HappensThrough left act done d path new
+abbrev pub Leads : Happening → Desktop → List Desktop → Desktop → Type 0
+Leads (Receive c piece) d path new = ReceivesAt c piece (client_at c d) d path new
+Leads (Message c) d path new = ServesThrough c d path new
+Leads (Starve c) d path new = StarvesAt c (client_at c d) d path new
+Leads (Single act done) d path new = HappensThrough act done d path new
 
 -- happenings one after another
-abbrev pub LeadsAll : LeftOut → List Happening → Desktop → Desktop → Type 0
-LeadsAll left [] d new = new ≡ d
-LeadsAll left (h ∷ hs) d new = (path : List Desktop) × (mid : Desktop) × Leads left h d path mid × LeadsAll left hs mid new
+abbrev pub LeadsAll : List Happening → Desktop → Desktop → Type 0
+LeadsAll [] d new = new ≡ d
+LeadsAll (h ∷ hs) d new = (path : List Desktop) × (mid : Desktop) × Leads h d path mid × LeadsAll hs mid new
 
 -- ---- a piece of a client's stream
 

@@ -1,4 +1,4 @@
--- What may happen to the plain desktop where every request is served but those that are left out.
+-- What may happen to the plain desktop where every request is served.
 use Rattle.std.specs.Prelude.{ℕ, ℤ, pos, zero, suc, ◌≡◌, ◌+◌, ◌-◌, ◌==◌, int_lt, Bool, true, false, if◌then◌else◌, is_none, Option, Some}
 use Rattle.std.specs.Prelude.{None, Result, Ok, Err, List, [], ◌∷◌, ◌++◌, take, drop, filter, flat_map, ◌⊎◌}
 use Rattle.std.specs.List.{list_any}
@@ -27,7 +27,6 @@ use Rattle.spec_desktop.specs.Changing.{changed_for, grab_holder, stacked_for, w
 use Rattle.spec_desktop.specs.Demand.{Demand, Asks, Move}
 use Rattle.spec_desktop.specs.Demanding.{judge_all}
 use Rattle.spec_desktop.specs.Desktop.{Desktop, Resident, arrival, client_at, with_client, status_in}
-use Rattle.spec_desktop.specs.LeftOut.{LeftOut}
 use Rattle.spec_desktop.specs.Pointing.{has_pointers}
 use Rattle.spec_desktop.specs.Replies.{replies}
 use Rattle.spec_desktop.specs.Settling.{EndsAndSettles, Midstep, PointerActs, QueuesTo, Settles, SettlesEnds, Tells, becomes, struck_by}
@@ -60,10 +59,10 @@ changed_so c demand r d q why =
     record { desktop = with_client c (Some (with_peer q (changed_for c demand r d))) (done_for c demand r d); struck = struck_by c why [] }
 
 -- what is asked is done, and its client is told
-abbrev pub DoesThen : LeftOut → ℕ → Demand → Resident → Desktop → (Midstep → Type 0) → Type 0
-DoesThen left c demand r d Next =
+abbrev pub DoesThen : ℕ → Demand → Resident → Desktop → (Midstep → Type 0) → Type 0
+DoesThen c demand r d Next =
     (q : Peer) × (why : Option Cause)
-    × QueuesTo (replies left c demand r (changed_for c demand r d) (all_windows d) d) (changed_for c demand r d).peer q why
+    × QueuesTo (replies c demand r (changed_for c demand r d) (all_windows d) d) (changed_for c demand r d).peer q why
     × Next (changed_so c demand r d q why)
 
 abbrev pub WantsOrThen : Bool → Type 0 → ℕ → Resident → Desktop → (Midstep → Type 0) → Type 0
@@ -71,23 +70,23 @@ WantsOrThen false Later c r d Next = Later
 WantsOrThen true Later c r d Next = BecomesThen (LacksMemory r.peer) c r d Next ⊎ Later
 
 -- A message is done, or refused.
-abbrev pub AnswersThen : LeftOut → Result Demand Refusal → ℕ → Resident → Desktop → (Midstep → Type 0) → Type 0
-AnswersThen left (Ok demand) c r d Next =
-    WantsOrThen (wants_memory demand) (DoesThen left c demand (with_peer (counted r.peer) r) d Next) c (with_peer (counted r.peer) r) d Next
-AnswersThen left (Err refusal) c r d Next = BecomesThen (Errs refusal r.peer) c r d Next
+abbrev pub AnswersThen : Result Demand Refusal → ℕ → Resident → Desktop → (Midstep → Type 0) → Type 0
+AnswersThen (Ok demand) c r d Next =
+    WantsOrThen (wants_memory demand) (DoesThen c demand (with_peer (counted r.peer) r) d Next) c (with_peer (counted r.peer) r) d Next
+AnswersThen (Err refusal) c r d Next = BecomesThen (Errs refusal r.peer) c r d Next
 
 -- The first message of what has come is taken. A header whose size isn't allowed is refused as one.
-abbrev pub TakesThen : LeftOut → Split → ℕ → Resident → Desktop → (Midstep → Type 0) → Type 0
-TakesThen left (Whole object opcode size) c r d Next =
-    AnswersThen left (judge_all left r object opcode (take (size - 8) (drop 8 r.peer.rest))) c
+abbrev pub TakesThen : Split → ℕ → Resident → Desktop → (Midstep → Type 0) → Type 0
+TakesThen (Whole object opcode size) c r d Next =
+    AnswersThen (judge_all r object opcode (take (size - 8) (drop 8 r.peer.rest))) c
     (with_peer (with_rest (drop size r.peer.rest) r.peer) r) d Next
-TakesThen left Bad c r d Next = BecomesThen (Errs (display_error InvalidMethod) r.peer) c r d Next
-TakesThen left More c r d Next = ⊥
+TakesThen Bad c r d Next = BecomesThen (Errs (display_error InvalidMethod) r.peer) c r d Next
+TakesThen More c r d Next = ⊥
 
 -- a client that is there and lives takes one message
-abbrev pub ServesThen : LeftOut → ℕ → Option Resident → Desktop → (Midstep → Type 0) → Type 0
-ServesThen left c None d Next = ⊥
-ServesThen left c (Some r) d Next = (r.peer.status ≡ None) × TakesThen left (split_of r.peer.rest) c r d Next
+abbrev pub ServesThen : ℕ → Option Resident → Desktop → (Midstep → Type 0) → Type 0
+ServesThen c None d Next = ⊥
+ServesThen c (Some r) d Next = (r.peer.status ≡ None) × TakesThen (split_of r.peer.rest) c r d Next
 
 -- ---- then those end that are to, and the focus is settled
 
@@ -95,15 +94,15 @@ abbrev pub settling : Desktop → Midstep → Type 0
 settling new mid = EndsAndSettles mid new
 
 -- One message of a client.
-abbrev pub Serves : LeftOut → ℕ → Desktop → Desktop → Type 0
-Serves left c d new = ServesThen left c (client_at c d) d (settling new)
+abbrev pub Serves : ℕ → Desktop → Desktop → Type 0
+Serves c d new = ServesThen c (client_at c d) d (settling new)
 
 -- ---- a piece
 
 -- n messages, one after another
-abbrev pub Reaches : LeftOut → ℕ → ℕ → Desktop → Desktop → Type 0
-Reaches left c zero d new = new ≡ d
-Reaches left c (suc n) d new = (mid : Desktop) × Reaches left c n d mid × Serves left c mid new
+abbrev pub Reaches : ℕ → ℕ → Desktop → Desktop → Type 0
+Reaches c zero d new = new ≡ d
+Reaches c (suc n) d new = (mid : Desktop) × Reaches c n d mid × Serves c mid new
 
 -- The taking of messages stops where none is left, or at any moment where memory runs out.
 abbrev pub StopsAt : ℕ → Option Resident → Desktop → Desktop → Type 0
@@ -111,15 +110,15 @@ StopsAt c None d new = ⊥
 StopsAt c (Some r) d new =
     ((new ≡ d) × IsIdle r.peer) ⊎ ((r.peer.status ≡ None) × EndsAndSettles (unstruck (becomes c r (ended cause.Memory r.peer) d)) new)
 
-abbrev pub FeedsAt : LeftOut → ℕ → List ℕ → Option Cause → Resident → Desktop → Desktop → Type 0
-FeedsAt left c piece (Some cause) r d new = new ≡ d
-FeedsAt left c piece None r d new =
-    (n : ℕ) × (mid : Desktop) × Reaches left c n (with_client c (Some (with_peer (with_rest (r.peer.rest ++ piece) r.peer) r)) d) mid
+abbrev pub FeedsAt : ℕ → List ℕ → Option Cause → Resident → Desktop → Desktop → Type 0
+FeedsAt c piece (Some cause) r d new = new ≡ d
+FeedsAt c piece None r d new =
+    (n : ℕ) × (mid : Desktop) × Reaches c n (with_client c (Some (with_peer (with_rest (r.peer.rest ++ piece) r.peer) r)) d) mid
     × StopsAt c (client_at c mid) mid new
 
-abbrev pub IsFedAt : LeftOut → ℕ → List ℕ → Option Resident → Desktop → Done → Desktop → Type 0
-IsFedAt left c piece None d done new = (done ≡ gave.Feed NoClient) × (new ≡ d)
-IsFedAt left c piece (Some r) d done new = FeedsAt left c piece r.peer.status r d new × (done ≡ gave.Feed (fed_of (status_in c new)))
+abbrev pub IsFedAt : ℕ → List ℕ → Option Resident → Desktop → Done → Desktop → Type 0
+IsFedAt c piece None d done new = (done ≡ gave.Feed NoClient) × (new ≡ d)
+IsFedAt c piece (Some r) d done new = FeedsAt c piece r.peer.status r d new × (done ≡ gave.Feed (fed_of (status_in c new)))
 
 -- ---- a client comes, goes, is written to, or closed
 -- Beside what comes then, there is what comes where the focus needn't be settled any more.
@@ -249,19 +248,19 @@ ButtonsThen false time button d Settled = ReleasesThen (is_down button d.pointer
 
 -- What happens but a piece, which is the messages that it completes: by itself it leads to the middle of a step; what comes then is said of
 -- those after which the focus is to be settled, and of the others.
-abbrev pub HappensThen : LeftOut → Act → Done → Desktop → (Midstep → Type 0) → (Midstep → Type 0) → Type 0
-HappensThen left Connect done d Next Settled = ConnectsThen (lowest d.clients) d done Settled
-HappensThen left (Feed c piece) done d Next Settled = ⊥
-HappensThen left (Store c store at bytes) done d Next Settled =
+abbrev pub HappensThen : Act → Done → Desktop → (Midstep → Type 0) → (Midstep → Type 0) → Type 0
+HappensThen Connect done d Next Settled = ConnectsThen (lowest d.clients) d done Settled
+HappensThen (Feed c piece) done d Next Settled = ⊥
+HappensThen (Store c store at bytes) done d Next Settled =
     ChangesThen (IsStored store at bytes) (gave.Store stored.NoClient) c (client_at c d) d done Settled
-HappensThen left (Leave c) done d Next Settled = LeavesThen c (client_at c d) d done Next Settled
-HappensThen left (Tick time) done d Next Settled = (done ≡ gave.Tick) × ShowsThen time d Next
-HappensThen left (Send c n) done d Next Settled = ChangesThen (IsSent n) (gave.Sent false) c (client_at c d) d done Settled
-HappensThen left (Close c) done d Next Settled = ChangesThen IsClosed (gave.Close false) c (client_at c d) d done Settled
-HappensThen left (Motion time x y) done d Next Settled = (done ≡ gave.Motion) × MovesThen time (point_in d.output x y) d Settled
-HappensThen left (Button time button pressed) done d Next Settled = (done ≡ gave.Button) × ButtonsThen pressed time button d Settled
+HappensThen (Leave c) done d Next Settled = LeavesThen c (client_at c d) d done Next Settled
+HappensThen (Tick time) done d Next Settled = (done ≡ gave.Tick) × ShowsThen time d Next
+HappensThen (Send c n) done d Next Settled = ChangesThen (IsSent n) (gave.Sent false) c (client_at c d) d done Settled
+HappensThen (Close c) done d Next Settled = ChangesThen IsClosed (gave.Close false) c (client_at c d) d done Settled
+HappensThen (Motion time x y) done d Next Settled = (done ≡ gave.Motion) × MovesThen time (point_in d.output x y) d Settled
+HappensThen (Button time button pressed) done d Next Settled = (done ≡ gave.Button) × ButtonsThen pressed time button d Settled
 
 -- What may happen to the plain desktop, with its answer. That memory runs out is the only choice.
-abbrev pub Happens : LeftOut → Act → Done → Desktop → Desktop → Type 0
-Happens left (Feed c piece) done d new = IsFedAt left c piece (client_at c d) d done new
-Happens left act done d new = HappensThen left act done d (settling new) (ending new)
+abbrev pub Happens : Act → Done → Desktop → Desktop → Type 0
+Happens (Feed c piece) done d new = IsFedAt c piece (client_at c d) d done new
+Happens act done d new = HappensThen act done d (settling new) (ending new)

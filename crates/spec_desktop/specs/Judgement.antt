@@ -141,13 +141,13 @@ abbrev pub buffer_destroyed : ℕ → Option Buffer → Result Action Refusal
 buffer_destroyed object None = Err (display_error Implementation)
 buffer_destroyed object (Some buffer) = Ok (DestroyBuffer object buffer.laid.store)
 
--- wl_seat has a pointer, which isn't served yet, and no keyboard and no touch
+-- wl_seat has no keyboard and no touch; its pointer is asked of the desktop
 abbrev pub seat_refusal : ℕ → WlSeatRequest → Refusal
 seat_refusal object (seat.GetPointer id) = display_error Implementation
 seat_refusal object (seat.GetKeyboard id) = record { object = object; code = MissingCapability }
 seat_refusal object (seat.GetTouch id) = record { object = object; code = MissingCapability }
 
--- xdg_wm_base: by itself a client's definition leaves all but create_positioner out; the desk serves it
+-- xdg_wm_base: but for create_positioner its requests are asked of the desktop
 abbrev pub base_action : ℕ → XdgWmBaseRequest → Result Action Refusal
 base_action version (base.CreatePositioner id) = Ok (CreatePositioner id version)
 base_action version request = Err (display_error Implementation)
@@ -169,7 +169,7 @@ positioner_action object positioner.SetReactive = set_if_allowed object Reactive
 positioner_action object (positioner.SetParentSize width height) = set_if_allowed object (ParentSize width height)
 positioner_action object (positioner.SetParentConfigure serial) = set_if_allowed object (ParentConfigure serial)
 
--- The request's own errors, and what it asks. What the definition of a client by itself leaves out is refused as a limit would be.
+-- The request's own errors, and what it asks. What is asked of the desktop is nothing here, and is refused as a limit would be.
 abbrev pub action_of : Known → ℕ → ℕ → Request → Result Action Refusal
 action_of known object version (ToDisplay request) = Ok (display_action request)
 action_of known object version (ToRegistry name interface bound id) = bind_action name interface bound id

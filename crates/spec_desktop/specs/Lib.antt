@@ -10,12 +10,10 @@ pub mod Happenings
 pub mod Happens
 pub mod HitLaws
 pub mod Judgement
-pub mod LeftOut
 pub mod Marks
 pub mod Moments
 pub mod Objects
 pub mod Peer
-pub mod Plain
 pub mod Pointer
 pub mod PointerActions
 pub mod Pointing
@@ -24,7 +22,6 @@ pub mod Releases
 pub mod Replies
 pub mod Requests
 pub mod Scratch
-pub mod Served
 pub mod Settling
 pub mod Stacked
 pub mod Stacking

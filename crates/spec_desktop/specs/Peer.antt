@@ -1,11 +1,10 @@
 -- One client of the plain desktop: what a compositor holds of it, whatever a program keeps.
 use Rattle.std.specs.Option.{option_map}
-use Rattle.std.specs.Prelude.{ℕ, suc, zero, ◌≡◌, ◌+◌, ◌-◌, List, [], ◌∷◌, ◌++◌, fold, length, take, drop, Bool, true, false, ◌&&◌, nat_le}
-use Rattle.std.specs.Prelude.{if◌then◌else◌, is_some, Option, Some, None, Result, Ok, Err, ◌⊎◌, IsTrue, MatchBool, MatchOption}
+use Rattle.std.specs.Prelude.{ℕ, ◌≡◌, ◌+◌, ◌-◌, List, [], ◌∷◌, ◌++◌, fold, length, drop, Bool, true, false, ◌&&◌, nat_le}
+use Rattle.std.specs.Prelude.{if◌then◌else◌, is_some, Option, Some, None, ◌⊎◌, IsTrue, MatchBool, MatchOption}
 use Rattle.std.specs.Prelude.{unsigned_abs}
 use Rattle.wl_wire.specs.Wire.{split_of}
-use Rattle.wl_wire.specs.declared.header.Split.{Split}
-use Rattle.wl_wire.specs.declared.header.Split.TheVariants.{Message as Whole, More, Bad}
+use Rattle.wl_wire.specs.declared.header.Split.TheVariants.{More}
 use Rattle.wl_proto.specs.declared.interface.Interface.{Interface}
 use Rattle.wl_proto.specs.declared.interface.Interface.TheVariants.{WlDisplay, WlRegistry, WlRegion, WlShmPool, WlBuffer}
 use Rattle.wl_proto.specs.declared.interface.Interface.TheVariants.{XdgPositioner}
@@ -18,14 +17,14 @@ use Rattle.wl_shell.specs.Settings.{with_setting}
 use Rattle.wl_shell.specs.declared.settings.Setting.{Setting}
 use Rattle.spec_desktop.specs.declared.cause.Cause.{Cause}
 use Rattle.spec_desktop.specs.declared.cause.Cause.TheVariants.{Protocol, Memory, Slow, Gone}
-use Rattle.spec_desktop.specs.declared.refusals.ErrorCode.TheVariants.{InvalidMethod, NoMemory}
+use Rattle.spec_desktop.specs.declared.refusals.ErrorCode.TheVariants.{NoMemory}
 use Rattle.spec_desktop.specs.declared.refusals.Refusal.{Refusal}
 use Rattle.spec_desktop.specs.declared.actions.Action.{Action}
 use Rattle.spec_desktop.specs.declared.actions.Action.TheVariants.{Sync, GetRegistry, Bind, CreateRegion, AddToRegion, SubtractFromRegion}
 use Rattle.spec_desktop.specs.declared.actions.Action.TheVariants.{DestroyRegion, CreatePool, CreateBuffer, ResizePool, DestroyPool}
 use Rattle.spec_desktop.specs.declared.actions.Action.TheVariants.{DestroyBuffer, CreatePositioner, SetPositioner, DestroyPositioner}
 use Rattle.spec_desktop.specs.Buffers.{Buffer, numbered}
-use Rattle.spec_desktop.specs.Judgement.{Known, judge}
+use Rattle.spec_desktop.specs.Judgement.{Known}
 use Rattle.spec_desktop.specs.Objects.{ById, Object, Objects, nothing, with_id}
 use Rattle.spec_desktop.specs.Told.{Output, Said, bind_told, callback_done, code_number, display_error, error_told, id_deleted, registry_told}
 use Rattle.spec_desktop.specs.Told.{said_bytes}
@@ -230,27 +229,6 @@ WantsOr true Later old new = LacksMemory old new ⊎ Later
 abbrev pub Acts : Action → Peer → Peer → Type 0
 Acts action old new = WantsOr (takes_memory action) (Queues (answers_to old.output action) (changed action old) new) old new
 
--- A message is answered, or refused.
-abbrev pub Answers : Result Action Refusal → Peer → Peer → Type 0
-Answers (Ok action) old new = Acts action (counted old) new
-Answers (Err refusal) old new = Errs refusal old new
-
--- The first message of what has come is taken. A header whose size isn't allowed is refused as one.
-abbrev pub Takes : Split → Peer → Peer → Type 0
-Takes (Whole object opcode size) old new =
-    Answers (judge (known_of old) object opcode (take (size - 8) (drop 8 old.rest))) (with_rest (drop size old.rest) old) new
-Takes Bad old new = Errs (display_error InvalidMethod) old new
-Takes More old new = ⊥
-
--- a client that lives takes one message
-abbrev pub Serves : Peer → Peer → Type 0
-Serves old new = (old.status ≡ None) × Takes (split_of old.rest) old new
-
--- n messages, one after another
-abbrev pub Reaches : ℕ → Peer → Peer → Type 0
-Reaches zero old new = new ≡ old
-Reaches (suc n) old new = (mid : Peer) × Reaches n old mid × Serves mid new
-
 -- nothing is left to take
 abbrev pub IsIdleAt : Option Cause → List ℕ → Type 0
 IsIdleAt (Some cause) rest = Unit {0}
@@ -258,18 +236,6 @@ IsIdleAt None rest = split_of rest ≡ More
 
 abbrev pub IsIdle : Peer → Type 0
 IsIdle p = IsIdleAt p.status p.rest
-
--- The taking of messages stops where none is left, or at any moment where memory runs out.
-abbrev pub Stops : Peer → Peer → Type 0
-Stops old new = ((new ≡ old) × IsIdle old) ⊎ ((old.status ≡ None) × (new ≡ ended Memory old))
-
--- A piece comes: it is kept, and each whole message is taken. An end is the end.
-abbrev pub FeedsAt : Option Cause → List ℕ → Peer → Peer → Type 0
-FeedsAt (Some cause) piece old new = new ≡ old
-FeedsAt None piece old new = (n : ℕ) × (mid : Peer) × Reaches n (with_rest (old.rest ++ piece) old) mid × Stops mid new
-
-abbrev pub Feeds : List ℕ → Peer → Peer → Type 0
-Feeds piece old new = FeedsAt old.status piece old new
 
 -- The client goes: one that lives ends so.
 abbrev pub left_by : Option Cause → Peer → Peer

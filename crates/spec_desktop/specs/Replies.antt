@@ -20,7 +20,6 @@ use Rattle.spec_desktop.specs.Demand.{Demand, Asks, EndSurface, CommitTree, EndS
 use Rattle.spec_desktop.specs.Demand.{EndToplevel}
 use Rattle.spec_desktop.specs.Demanding.{effect_of_commit}
 use Rattle.spec_desktop.specs.Desktop.{Desktop, Resident}
-use Rattle.spec_desktop.specs.LeftOut.{LeftOut}
 use Rattle.spec_desktop.specs.Step.{answers_to, each_once, toplevel_configured, xdg_configured}
 
 -- ---- configures
@@ -117,11 +116,6 @@ releases old new =
     (fold (λ bs b. by_object b bs) [] (filter (λ b. not (is_busy b.number new.owned.surfaces) && has_object new b)
     (buffers_busy old.owned.surfaces)))
 
--- unless they are left out
-abbrev pub releases_unless : Bool → Resident → Resident → List Said
-releases_unless true old new = []
-releases_unless false old new = releases old new
-
 -- ---- dismissed popups
 
 abbrev pub dismissed_in : Shell → List ℕ
@@ -137,5 +131,5 @@ popups_done old new =
     (filter (λ id. not (is_among id (dismissed_in old.owned.shell))) (newest_first (dismissed_in new.owned.shell)))
 
 -- all that a client is told of its own message
-abbrev pub replies : LeftOut → ℕ → Demand → Resident → Resident → List Window → Desktop → List Said
-replies left c demand old new windows d = own_answers c demand old windows d ++ releases_unless left.releases old new ++ popups_done old new
+abbrev pub replies : ℕ → Demand → Resident → Resident → List Window → Desktop → List Said
+replies c demand old new windows d = own_answers c demand old windows d ++ releases old new ++ popups_done old new

@@ -67,7 +67,7 @@ root_of owned s =
       place = s.place;
     }
 
--- The windows of these toplevels, from the bottom. No popup is served yet.
+-- The windows of these toplevels' own trees, from the bottom.
 abbrev pub windows_on : (ℕ → Owned) → List Standing → List Window
 windows_on owned standing = windows (λ client. (owned client).surfaces) (λ client. []) (map (root_of owned) standing)
 

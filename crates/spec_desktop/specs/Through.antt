@@ -4,7 +4,6 @@ use Rattle.spec_desktop.specs.Pointer.{hit_now, is_press}
 use Rattle.spec_desktop.specs.Stacking.{Standing, is_of}
 use Rattle.spec_desktop.specs.Windows.{Window}
 use Rattle.spec_desktop.specs.Desktop.{Desktop, client_at}
-use Rattle.spec_desktop.specs.LeftOut.{LeftOut}
 use Rattle.spec_desktop.specs.Settling.{Midstep, Settles, Strike, ended_all, ended_by, unstruck}
 use Rattle.spec_desktop.specs.Stacked.{all_windows}
 use Rattle.spec_desktop.specs.Happens.{HappensThen, ServesThen}
@@ -41,12 +40,12 @@ ending_through path new mid =
     (later : List Desktop) × (path ≡ mid.desktop ∷ later) × EndsFirstThrough (SettlesAllThrough 32) mid.struck mid.desktop later new
 
 -- One message of a client leads from a desktop through these to the last.
-abbrev pub ServesThrough : LeftOut → ℕ → Desktop → List Desktop → Desktop → Type 0
-ServesThrough left c d path new = ServesThen left c (client_at c d) d (settling_through path new)
+abbrev pub ServesThrough : ℕ → Desktop → List Desktop → Desktop → Type 0
+ServesThrough c d path new = ServesThen c (client_at c d) d (settling_through path new)
 
 -- So does whatever else happens but a piece, which is the messages that it completes.
-abbrev pub HappensThrough : LeftOut → Act → Done → Desktop → List Desktop → Desktop → Type 0
-HappensThrough left act done d path new = HappensThen left act done d (settling_through path new) (ending_through path new)
+abbrev pub HappensThrough : Act → Done → Desktop → List Desktop → Desktop → Type 0
+HappensThrough act done d path new = HappensThen act done d (settling_through path new) (ending_through path new)
 
 -- ---- what a press raises
 

@@ -83,8 +83,8 @@ pub enum Done {
 pub enum ConnectError {
     /// All 32 numbers are taken.
     #[error("all 32 client numbers are taken")]
-    Full,
+    Full = 1,
     /// There is no memory for another client.
     #[error("out of memory")]
-    Memory,
+    Memory = 2,
 }

@@ -2,12 +2,11 @@
 use Rattle.std.proofs.Common.{◌≡◌, ℕ, zero, suc, ◌+◌, List, [], ◌∷◌, Option, Some, None, refl}
 use Rattle.law_desktop.specs.Ample.{happened}
 use Rattle.spec_desktop.specs.Desktop.{Desktop, empty}
-use Rattle.spec_desktop.specs.LeftOut.{nothing_left_out}
 use Rattle.spec_desktop.specs.Act.{Connect, Leave, Close, lowest}
 
 abbrev connects : ℕ → Desktop → Desktop
 connects zero d = d
-connects (suc n) d = connects n (happened nothing_left_out Connect d)
+connects (suc n) d = connects n (happened Connect d)
 
 -- the number that a connect gives, where one is free: one more than how many places are taken before the first free one
 abbrev number_at : Option ℕ → List ℕ
@@ -16,7 +15,7 @@ number_at (Some k) = (k + 1) ∷ []
 
 abbrev numbers : ℕ → Desktop → List (List ℕ)
 numbers zero d = []
-numbers (suc n) d = number_at (lowest d.clients) ∷ numbers n (happened nothing_left_out Connect d)
+numbers (suc n) d = number_at (lowest d.clients) ∷ numbers n (happened Connect d)
 
 abbrev up_to : ℕ → ℕ → List (List ℕ)
 up_to zero k = []
@@ -34,8 +33,8 @@ pub row_full : number_at (lowest (connects 32 nobody).clients) ≡ []
 row_full = refl
 
 -- until one is gone, and has been closed: its number is the next one's
-pub row_gone : number_at (lowest (happened nothing_left_out (Leave 5) (connects 32 nobody)).clients) ≡ []
+pub row_gone : number_at (lowest (happened (Leave 5) (connects 32 nobody)).clients) ≡ []
 row_gone = refl
 
-pub row_again : number_at (lowest (happened nothing_left_out (Close 5) (happened nothing_left_out (Leave 5) (connects 32 nobody))).clients) ≡ 5 ∷ []
+pub row_again : number_at (lowest (happened (Close 5) (happened (Leave 5) (connects 32 nobody))).clients) ≡ 5 ∷ []
 row_again = refl

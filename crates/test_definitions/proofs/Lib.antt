@@ -7,6 +7,7 @@ pub mod Frames
 pub mod Grabs
 pub mod Input
 pub mod Levels
+pub mod OwnRequests
 pub mod Pointer
 pub mod Popups
 pub mod Repositions

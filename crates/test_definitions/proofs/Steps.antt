@@ -11,7 +11,6 @@ use Rattle.wl_surface.specs.Surfaces.{with_change}
 use Rattle.spec_desktop.specs.Windows.{Place, Window}
 use Rattle.law_desktop.specs.Ample.{fed, happened}
 use Rattle.spec_desktop.specs.Desktop.{Desktop, Resident, arrival, client_at, empty, with_client}
-use Rattle.spec_desktop.specs.LeftOut.{nothing_left_out}
 use Rattle.spec_desktop.specs.Scratch.{scratch_of}
 use Rattle.spec_desktop.specs.Stacked.{all_windows}
 use Rattle.spec_desktop.specs.Step.{with_surfaces}
@@ -25,26 +24,26 @@ start =
 
 -- a request of a client to an object
 abbrev pub asks : ℕ → ℕ → ℕ → List Field → Desktop → Desktop
-asks c object opcode fields d = fed nothing_left_out c (message_bytes object opcode fields) d
+asks c object opcode fields d = fed c (message_bytes object opcode fields) d
 
 abbrev pub motion : ℕ → ℤ → ℤ → Desktop → Desktop
-motion time x y d = happened nothing_left_out (Motion time x y) d
+motion time x y d = happened (Motion time x y) d
 
 abbrev pub press : ℕ → ℕ → Desktop → Desktop
-press time button d = happened nothing_left_out (Button time button true) d
+press time button d = happened (Button time button true) d
 
 abbrev pub release : ℕ → ℕ → Desktop → Desktop
-release time button d = happened nothing_left_out (Button time button false) d
+release time button d = happened (Button time button false) d
 
 abbrev pub tick : ℕ → Desktop → Desktop
-tick time d = happened nothing_left_out (Tick time) d
+tick time d = happened (Tick time) d
 
 abbrev pub leaves : ℕ → Desktop → Desktop
-leaves c d = happened nothing_left_out (Leave c) d
+leaves c d = happened (Leave c) d
 
 -- bytes are put into a store of a client
 abbrev pub stores : ℕ → ℕ → List ℕ → ℕ → Desktop → Desktop
-stores store at bytes c d = happened nothing_left_out (Store c store at bytes) d
+stores store at bytes c d = happened (Store c store at bytes) d
 
 abbrev asked_by : List Request → ℕ → Option Resident → Desktop → Desktop
 asked_by requests surface None d = d

@@ -14,7 +14,6 @@ use Rattle.spec_desktop.specs.Windows.{Place, Window, tree}
 use Rattle.spec_desktop.specs.Desktop.{Desktop, Resident, arrival, client_at, empty, with_client}
 use Rattle.spec_desktop.specs.Moments.{marks_at_least}
 use Rattle.law_desktop.specs.Ample.{fed}
-use Rattle.spec_desktop.specs.LeftOut.{nothing_left_out}
 use Rattle.spec_desktop.specs.Scratch.{scratch}
 use Rattle.spec_desktop.specs.Stacked.{all_windows}
 use Rattle.spec_desktop.specs.Ask.{CreateSurface, ConfigureAgain}
@@ -31,7 +30,7 @@ start =
 
 -- a request of a client to an object
 abbrev pub asks : ℕ → ℕ → ℕ → List Field → Desktop → Desktop
-asks c object opcode fields d = fed nothing_left_out c (message_bytes object opcode fields) d
+asks c object opcode fields d = fed c (message_bytes object opcode fields) d
 
 abbrev quiet : ℕ → Option Resident → Desktop → Desktop
 quiet c None d = d

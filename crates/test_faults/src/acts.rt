@@ -8,7 +8,7 @@ use wl_wire::put;
 
 pub(crate) const OUTPUT: Config = Config {
     width: 64,
-    height: 48,
+    height: 64,
     background: Rgb {
         r: 30,
         g: 20,
@@ -21,12 +21,12 @@ pub(crate) type Color = [u8; 3];
 
 pub(crate) const BACKGROUND: Color = [10, 20, 30];
 
-/// Points of one colour of a client's window: the first column and row in its toplevel, and the sides.
+/// Points of one colour of a client's window: the first column and row in its toplevel, whose corner may be to the right and below, and the sides.
 #[derive(Clone, Copy)]
 pub(crate) struct Layer {
     pub client: u32,
-    pub x: usize,
-    pub y: usize,
+    pub x: isize,
+    pub y: isize,
     pub w: usize,
     pub h: usize,
     pub color: Color,
@@ -41,6 +41,8 @@ pub(crate) enum Act<'a> {
     Sends(u32, &'a [Message<'a>]),
     /// A client sends messages, by the last of which its toplevel is mapped.
     Maps(u32, &'a [Message<'a>]),
+    /// A client sends messages, one after another, while the other client lives.
+    SendsBeside(u32, &'a [Message<'a>]),
     /// Bytes are put into a store of a client, from a place on.
     Stores(u32, u32, u32, &'a [u8]),
     /// So many bytes of a client's store from a place on get this value.
@@ -51,12 +53,18 @@ pub(crate) enum Act<'a> {
     ToldAny(u32, &'a [Message<'a>], &'a [Message<'a>], &'a [Message<'a>]),
     /// Nothing waits for a client.
     Silent(u32),
+    /// Nothing waits for a client while the other one lives.
+    SilentBeside(u32),
+    /// A client goes.
+    Goes(u32),
     /// The pointer goes to a point.
     Points(i32, i32),
     /// The left button is pressed, or released.
     Presses(bool),
     /// A tick, and what is shown from bottom to top. The windows of clients that ended are left out.
     Shows(&'a [Layer]),
+    /// The same where both clients live, and what is shown where one doesn't.
+    ShowsEither(&'a [Layer], &'a [Layer]),
 }
 
 /// A part of the bytes of a plan.
@@ -72,14 +80,19 @@ pub(crate) enum Planned<'a> {
     Connect(u32),
     /// A message of a client, and whether its toplevel is mapped by it.
     Feed(u32, Part, bool),
+    /// A message of a client, while the other one lives.
+    FeedBeside(u32, Part),
     Store(u32, u32, u32, Part),
     /// What a client was told is sent.
     Sent(u32, Part),
     SentAny(u32, Part, Part, Part),
     Silent(u32),
+    SilentBeside(u32),
+    Gone(u32),
     Motion(i32, i32),
     Button(bool),
     Tick(&'a [Layer]),
+    TickEither(&'a [Layer], &'a [Layer]),
 }
 
 #[derive(Drop)]
@@ -121,6 +134,14 @@ impl<'a> Plan<'a> {
             self.put_message(*message);
             let is_last = place.saturating_add(1) == messages.len();
             self.add(Planned::Feed(client, self.part_from(from), maps && is_last));
+        }
+    }
+
+    fn add_messages_beside(&mut self, client: u32, messages: &[Message]) {
+        for message in messages {
+            let from = self.bytes.len();
+            self.put_message(*message);
+            self.add(Planned::FeedBeside(client, self.part_from(from)));
         }
     }
 
@@ -173,6 +194,7 @@ impl<'a> Plan<'a> {
             Act::Connects(client) => self.add(Planned::Connect(client)),
             Act::Sends(client, messages) => self.add_messages(client, messages, false),
             Act::Maps(client, messages) => self.add_messages(client, messages, true),
+            Act::SendsBeside(client, messages) => self.add_messages_beside(client, messages),
             Act::Stores(client, store, at, bytes) => {
                 let part = self.add_bytes(bytes);
                 self.add(Planned::Store(client, store, at, part));
@@ -186,9 +208,12 @@ impl<'a> Plan<'a> {
                 self.add_told_any(client, first, second, third)
             }
             Act::Silent(client) => self.add(Planned::Silent(client)),
+            Act::SilentBeside(client) => self.add(Planned::SilentBeside(client)),
+            Act::Goes(client) => self.add(Planned::Gone(client)),
             Act::Points(x, y) => self.add(Planned::Motion(x, y)),
             Act::Presses(pressed) => self.add(Planned::Button(pressed)),
             Act::Shows(layers) => self.add(Planned::Tick(layers)),
+            Act::ShowsEither(both, one) => self.add(Planned::TickEither(both, one)),
         }
     }
 }
@@ -218,7 +243,7 @@ fn sent_step<'a>(client: u32, part: Part) -> Step<'a> {
 pub(crate) fn step_of<'a>(plan: &'a Plan, planned: Planned) -> Step<'a> {
     match planned {
         Planned::Connect(_) => Step::Connect,
-        Planned::Feed(client, part, _) => Step::Feed {
+        Planned::Feed(client, part, _) | Planned::FeedBeside(client, part) => Step::Feed {
             client,
             piece: plan.part(part),
         },
@@ -230,14 +255,15 @@ pub(crate) fn step_of<'a>(plan: &'a Plan, planned: Planned) -> Step<'a> {
         },
         Planned::Sent(client, part) => sent_step(client, part),
         Planned::SentAny(client, first, _, _) => sent_step(client, first),
-        Planned::Silent(client) => Step::Sent { client, count: 0 },
+        Planned::Silent(client) | Planned::SilentBeside(client) => Step::Sent { client, count: 0 },
+        Planned::Gone(client) => Step::Gone { client },
         Planned::Motion(x, y) => Step::Motion { time: 1, x, y },
         Planned::Button(pressed) => Step::Button {
             time: 2,
             button: 272,
             pressed,
         },
-        Planned::Tick(_) => Step::Tick { time: 0 },
+        Planned::Tick(_) | Planned::TickEither(..) => Step::Tick { time: 0 },
     }
 }
 
@@ -255,7 +281,10 @@ pub(crate) fn steps_of<'a>(alloc: Global, plan: &'a Plan) -> Option<Vec<Step<'a>
 /// What a client sends by an act.
 fn sent_by<'a>(act: Act<'a>, client: u32) -> &'a [Message<'a>] {
     match act {
-        Act::Sends(sender, messages) | Act::Maps(sender, messages) if sender == client => messages,
+        Act::Sends(sender, messages)
+        | Act::Maps(sender, messages)
+        | Act::SendsBeside(sender, messages)
+            if sender == client => { messages }
         _ => &[],
     }
 }
@@ -284,13 +313,16 @@ pub(crate) fn place_of(places: Places, client: u32) -> Option<usize> {
     }
 }
 
-fn spans(first: usize, length: usize, point: usize) -> bool {
+/// Whether a span at this distance from a place has a point.
+fn spans(place: usize, first: isize, length: usize, point: usize) -> bool {
+    let Some(first) = place.checked_add_signed(first) else {
+        return false;
+    };
     first <= point && point < first.saturating_add(length)
 }
 
 fn has(layer: &Layer, place: usize, x: usize, y: usize) -> bool {
-    spans(layer.x.saturating_add(place), layer.w, x)
-        && spans(layer.y.saturating_add(place), layer.h, y)
+    spans(place, layer.x, layer.w, x) && spans(place, layer.y, layer.h, y)
 }
 
 /// The colour of a point: that of the topmost layer that has it, for all are opaque.
@@ -308,7 +340,7 @@ fn color_at(layers: &[Layer], places: Places, x: usize, y: usize) -> Color {
 
 /// Whether an image is that of these layers, each point painted by itself.
 pub(crate) fn is_painted(pixels: &[u8], layers: &[Layer], places: Places) -> bool {
-    for y in 0..48_usize {
+    for y in 0..64_usize {
         for x in 0..64_usize {
             let at = y.saturating_mul(64).saturating_add(x).saturating_mul(4);
             let [blue, green, red] = color_at(layers, places, x, y);
@@ -318,5 +350,5 @@ pub(crate) fn is_painted(pixels: &[u8], layers: &[Layer], places: Places) -> boo
             }
         }
     }
-    pixels.len() == 12_288
+    pixels.len() == 16_384
 }

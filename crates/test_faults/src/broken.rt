@@ -1,6 +1,7 @@
 //! Streams that break off, come byte by byte, or have a word replaced, beside a client that has a window: what that one keeps.
 
 use crate::acts::{Act, Layer, OUTPUT, is_painted, plan_of, step_of, stream_of};
+use crate::known::{Known, begins_message, has_stores, is_known, known_of};
 use crate::menus::{GRAB, MENU};
 use crate::recorded::{BEGINS, MAPS_WIDE, SUBSURFACE, TWO_WINDOWS, WIDE_BUFFERS};
 use std::alloc::Global;
@@ -25,17 +26,17 @@ const WINDOW: &[Layer] = &[Layer {
 }];
 
 /// What takes the place of a word.
-const WORDS: [u32; 5] = [0, 1, 0x7fffffff, 0x80000000, 0xffffffff];
+pub(crate) const WORDS: [u32; 5] = [0, 1, 0x7fffffff, 0x80000000, 0xffffffff];
 
 /// A session in which the client 1 stays. False where it doesn't come so far.
-fn begin(alloc: Global, session: &mut Session<Global>, acts: &[Act]) -> bool {
+pub(crate) fn begin(alloc: Global, session: &mut Session<Global>, acts: &[Act]) -> bool {
     let Some(plan) = plan_of(alloc, acts) else {
         return false;
     };
     for planned in &plan.steps {
         session.step(&step_of(&plan, *planned));
     }
-    session.status(1) == Fed::Alive
+    begins_message(session)
 }
 
 /// What the client 1 keeps: what waits for it, and each frame without another client.
@@ -45,9 +46,9 @@ struct Kept<'a> {
     alone: &'a [u8],
 }
 
-/// Whether the client 1 lives, and what waits for it is as it was.
+/// Whether the client 1 lives, and its stores and what waits for it are as they were.
 fn keeps(session: &Session<Global>, kept: Kept) -> bool {
-    session.status(1) == Fed::Alive && session.out(1).unwrap_or(&[]) == kept.waiting
+    has_stores(session, None) && session.out(1).unwrap_or(&[]) == kept.waiting
 }
 
 fn shows_alone(session: &mut Session<Global>, kept: Kept) -> bool {
@@ -80,7 +81,7 @@ fn row_of(image: &[u8], y: usize) -> &[u8] {
 
 fn shows_both(session: &mut Session<Global>, kept: Kept) -> bool {
     let pixels = session.tick(0).pixels.pixels();
-    for y in 0..48_usize {
+    for y in 0..64_usize {
         let row = row_of(pixels, y);
         let alone = row_of(kept.alone, y);
         if row != alone && !is_covered_at_most(row, alone) {
@@ -96,7 +97,7 @@ fn leaves(session: &mut Session<Global>, fed: Fed) -> bool {
 }
 
 /// Whether a client that sent this lives on or ended by an error of its own.
-fn is_answered(fed: Fed) -> bool {
+pub(crate) fn is_answered(fed: Fed) -> bool {
     match fed {
         Fed::Alive | Fed::Ended(Cause::Protocol { .. }) => true,
         Fed::Ended(_) | Fed::NoClient => false,
@@ -129,7 +130,7 @@ fn first_cut(session: &mut Session<Global>, stream: &[u8], kept: Kept) -> Option
 }
 
 /// Puts a word into a stream.
-fn set_word(stream: &mut [u8], at: usize, word: u32) {
+pub(crate) fn set_word(stream: &mut [u8], at: usize, word: u32) {
     for (k, byte) in word.to_le_bytes().iter().enumerate() {
         if let Some(place) = stream.get_mut(at.saturating_add(k)) {
             *place = *byte;
@@ -137,7 +138,7 @@ fn set_word(stream: &mut [u8], at: usize, word: u32) {
     }
 }
 
-fn word_at(stream: &[u8], at: usize) -> u32 {
+pub(crate) fn word_at(stream: &[u8], at: usize) -> u32 {
     match stream.get(at..).unwrap_or(&[]) {
         [a, b, c, d, ..] => u32::from_le_bytes([*a, *b, *c, *d]),
         _ => 0,
@@ -186,6 +187,8 @@ enum Wrong {
     Cut(usize),
     /// The word at this place replaced by this one.
     Replaced(usize, u32),
+    /// After all of them the client 1 isn't answered as if nobody had been beside it.
+    Answered,
 }
 
 fn break_in(session: &mut Session<Global>, stream: &mut [u8], kept: Kept) -> Result<(), Wrong> {
@@ -238,10 +241,38 @@ fn break_beside(
     }
 }
 
+/// What is known of the client 1 where nobody was beside it.
+fn known_alone(alloc: Global) -> Option<Known> {
+    match Session::new(alloc, OUTPUT) {
+        Ok(mut session) => known_begun(alloc, &mut session),
+        Err(_) => None,
+    }
+}
+
+fn known_begun(alloc: Global, session: &mut Session<Global>) -> Option<Known> {
+    if begin(alloc, session, STAYS) {
+        known_of(alloc, session)
+    } else {
+        None
+    }
+}
+
+fn break_known(
+    alloc: Global,
+    session: &mut Session<Global>,
+    stream: &mut [u8],
+) -> Result<(), Wrong> {
+    break_beside(alloc, session, stream)?;
+    match known_alone(alloc) {
+        Some(known) if is_known(session, &known) => Ok(()),
+        _ => Err(Wrong::Answered),
+    }
+}
+
 /// Breaks the stream of a client of these acts in each way, always beside the client 1.
 fn broken(alloc: Global, acts: &[Act], client: u32) -> Result<(), Wrong> {
     match (Session::new(alloc, OUTPUT), stream_of(alloc, acts, client)) {
-        (Ok(mut session), Some(mut stream)) => break_beside(alloc, &mut session, &mut stream),
+        (Ok(mut session), Some(mut stream)) => break_known(alloc, &mut session, &mut stream),
         _ => Err(Wrong::NotBegun),
     }
 }

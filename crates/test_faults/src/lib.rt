@@ -6,6 +6,10 @@ mod acts;
 #[cfg(test)]
 mod broken;
 #[cfg(test)]
+mod grabbing;
+#[cfg(test)]
+mod known;
+#[cfg(test)]
 mod memory;
 #[cfg(test)]
 mod menus;
@@ -13,6 +17,8 @@ mod menus;
 mod recorded;
 #[cfg(test)]
 mod refused;
+#[cfg(test)]
+mod rivals;
 #[cfg(test)]
 mod settling;
 #[cfg(test)]

@@ -68,7 +68,7 @@ const ENDS_TOPLEVEL: &[Message] = &[Message(8, 0, &[])];
 
 const DISMISSED: &[Message] = &[Message(1, 1, &[Arg::Uint(8)]), Message(17, 1, &[])];
 
-/// The popup, which is black, at its first place, and at its second, where the output ends before it.
+/// The popup, which is black, at its first place, and at its second.
 const POPUP: Layer = Layer {
     client: 1,
     x: 40,

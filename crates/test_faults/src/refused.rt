@@ -7,6 +7,7 @@ use crate::acts::{
 };
 use crate::menus::{GRAB, MENU};
 use crate::recorded::{SHOWN_TWICE, SUBSURFACE, TWO_WINDOWS};
+use crate::rivals::RIVALS;
 use crate::settling::{ENTERED_ANEW, LEFT_BELOW};
 use std::alloc::{Allocator, Global};
 use test_support::Refusing;
@@ -193,6 +194,31 @@ fn store<A: Allocator + Copy>(
     session.store(client, store, at, plan.part(part)) == wanted
 }
 
+/// A client goes that lives, and the other lives on or has ended as out of memory.
+fn goes<A: Allocator + Copy>(
+    session: &mut Session<A>,
+    client: u32,
+    progress: &mut Progress,
+) -> bool {
+    let lives = progress.has(client);
+    progress.set(client, false, None);
+    let before = progress.count();
+    let is_right = session.gone(client) == lives && are_left(session, progress);
+    progress.struck = progress
+        .struck
+        .saturating_add(before.saturating_sub(progress.count()));
+    is_right
+}
+
+fn tick<'a, A: Allocator + Copy>(
+    session: &mut Session<A>,
+    layers: &'a [Layer],
+    progress: &mut Progress<'a>,
+) -> Taken {
+    progress.shown = layers;
+    done_if(shows(session, layers, progress.places))
+}
+
 /// Takes a step by its own call.
 fn take<'a, A: Allocator + Copy>(
     session: &mut Session<A>,
@@ -204,6 +230,10 @@ fn take<'a, A: Allocator + Copy>(
         Planned::Connect(client) => connect(session, client, progress),
         Planned::Feed(client, part, maps) => {
             done_if(feed(session, client, plan.part(part), maps, progress))
+        }
+        Planned::FeedBeside(client, part) => {
+            let is_alone = progress.count() < 2;
+            done_if(is_alone || feed(session, client, plan.part(part), false, progress))
         }
         Planned::Store(client, number, at, part) => {
             let lives = progress.has(client);
@@ -218,6 +248,10 @@ fn take<'a, A: Allocator + Copy>(
             done_if(!progress.has(client) || send_any(session, plan, wanted, are_both_there))
         }
         Planned::Silent(client) => done_if(!progress.has(client) || is_silent(session, client)),
+        Planned::SilentBeside(client) => {
+            done_if(progress.count() < 2 || is_silent(session, client))
+        }
+        Planned::Gone(client) => done_if(goes(session, client, progress)),
         Planned::Motion(x, y) => {
             session.motion(1, x, y);
             done_if(are_left(session, progress))
@@ -226,9 +260,10 @@ fn take<'a, A: Allocator + Copy>(
             session.button(2, 272, pressed);
             done_if(are_left(session, progress))
         }
-        Planned::Tick(layers) => {
-            progress.shown = layers;
-            done_if(shows(session, layers, progress.places))
+        Planned::Tick(layers) => tick(session, layers, progress),
+        Planned::TickEither(both, one) => {
+            let layers = if progress.count() == 2 { both } else { one };
+            tick(session, layers, progress)
         }
     }
 }
@@ -381,6 +416,19 @@ fn a_grab_without_memory(rt: HostRuntime) {
     assert!(rt; alone.none > 30 && alone.one > 0, "{alone:?}");
 }
 
+/// The popup's client goes in the end, so the client 1 is left, or none.
+#[test]
+fn rivals_without_memory(rt: HostRuntime) {
+    let Some((all, alone)) = tallies_of(rt.alloc(), RIVALS) else {
+        panic!(rt; "something happened that may not")
+    };
+    assert!(rt; all.stopped > 20 && all.one > 20 && all.two == 0, "{all:?}");
+    assert!(rt;
+        alone.none > 20 && alone.one > 20 && alone.two == 0,
+        "{alone:?}"
+    );
+}
+
 /// Who can't be told that another's window hides its own from the pointer ends, and the other is settled on and lives.
 #[test]
 fn a_window_below_another_without_memory(rt: HostRuntime) {
@@ -460,11 +508,20 @@ fn places_in<A: Allocator + Copy>(session: &Session<A>) -> Places {
 fn layers_at<'a>(plan: &Plan<'a>, place: usize) -> &'a [Layer] {
     let mut shown: &'a [Layer] = &[];
     for planned in plan.steps.iter().take(place.saturating_add(1)) {
-        if let Planned::Tick(layers) = *planned {
+        if let Planned::Tick(layers) | Planned::TickEither(layers, _) = *planned {
             shown = layers;
         }
     }
     shown
+}
+
+/// A client's toplevel stands nowhere any more.
+fn leave(places: &mut Places, client: u32) {
+    if client == 1 {
+        places[0] = None;
+    } else {
+        places[1] = None;
+    }
 }
 
 fn are_both_alive<A: Allocator + Copy>(session: &Session<A>, other: &Session<Global>) -> bool {
@@ -481,6 +538,15 @@ fn paints_as_much<A: Allocator + Copy>(
     session.tick(0).damage.count() == wanted || !is_same
 }
 
+/// Who ended as out of memory goes in the other session too.
+fn part_alike<A: Allocator + Copy>(session: &Session<A>, other: &mut Session<Global>) {
+    for client in [1, 2] {
+        if session.status(client) == NO_MEMORY {
+            other.gone(client);
+        }
+    }
+}
+
 /// Whether a session that stopped before a step took those before it and nothing of it: its clients are told the same, and the next frame is that tick's.
 fn is_stopped_at<A: Allocator + Copy>(
     session: &mut Session<A>,
@@ -489,6 +555,7 @@ fn is_stopped_at<A: Allocator + Copy>(
     place: usize,
 ) -> bool {
     take_steps(other, plan, place);
+    part_alike(session, other);
     let places = places_in(session);
     is_as(session, other, 1)
         && is_as(session, other, 2)
@@ -508,16 +575,20 @@ fn stopped<A: Allocator + Copy>(
     };
     match plan.steps.get(place) {
         Some(Planned::Connect(_)) if is_right => Ran::AtConnect,
-        Some(Planned::Tick(_)) if is_right => Ran::AtTick,
+        Some(Planned::Tick(_) | Planned::TickEither(..)) if is_right => Ran::AtTick,
         _ => Ran::Wrong,
     }
 }
 
-/// Whether there is a frame of each tick and, where no client ended, whether all of them are as painted.
-fn are_shown<A: Allocator>(shots: &[Shot<A>], plan: &Plan, places: Places, all: bool) -> bool {
+/// Whether there is a frame of each tick and, where no client ended by itself, whether all of them are as painted.
+fn are_shown<A: Allocator>(shots: &[Shot<A>], plan: &Plan, all: bool) -> bool {
+    let mut places = [Some(0), Some(32)];
     let mut ticks = 0usize;
     for planned in &plan.steps {
-        if let Planned::Tick(layers) = *planned {
+        if let Planned::Gone(client) = *planned {
+            leave(&mut places, client);
+        }
+        if let Planned::Tick(layers) | Planned::TickEither(layers, _) = *planned {
             let is_right = match shots.get(ticks) {
                 Some(shot) => !all || is_painted(&shot.pixels, layers, places),
                 None => false,
@@ -539,9 +610,8 @@ fn run<A: Allocator + Copy>(
 ) -> Ran {
     match session.run(steps) {
         Ok(shots) => {
-            let places = places_in(session);
             let all = session.status(1) == Fed::Alive && session.status(2) != NO_MEMORY;
-            if are_shown(&shots, plan, places, all) {
+            if are_shown(&shots, plan, all) {
                 Ran::All
             } else {
                 Ran::Wrong
@@ -629,6 +699,15 @@ fn a_run_with_a_grab_stops_where_memory_is_refused(rt: HostRuntime) {
         panic!(rt; "something happened that may not")
     };
     assert!(rt; all.at_tick > 10 && alone.at_tick > 5, "{all:?} {alone:?}");
+}
+
+#[test]
+fn a_run_of_rivals_stops_where_memory_is_refused(rt: HostRuntime) {
+    let Some((all, alone)) = all_stops_of(rt.alloc(), RIVALS) else {
+        panic!(rt; "something happened that may not")
+    };
+    assert!(rt; all.at_connect > 0 && all.at_tick > 50, "{all:?}");
+    assert!(rt; alone.at_connect > 0 && alone.at_tick > 10, "{alone:?}");
 }
 
 #[test]

@@ -102,8 +102,8 @@ const ONE_SEEN: &[Row] = &[
     Row::Is(2, Fed::Alive),
     Row::ToldOf(2, &[ENTERED]),
     Row::Shows(
-        2048,
-        2048,
+        2560,
+        2560,
         &[
             Pixel(0, 0, 0, 0, 0),
             Pixel(31, 32, 0, 0, 0),
@@ -118,8 +118,8 @@ const ONE_SEEN: &[Row] = &[
 const NOT_ENTERED: &[Row] = &[
     Row::ToldOf(2, &[ENTERED]),
     Row::Shows(
-        2048,
-        2048,
+        2560,
+        2560,
         &[Pixel(31, 32, 255, 0, 0), Pixel(32, 32, 0, 255, 0)],
     ),
     Row::Waiting(0),
@@ -136,8 +136,8 @@ const NONE_SEEN: &[Row] = &[
     Row::Is(2, Fed::Alive),
     Row::ToldOf(2, &[RELEASED_10, LEFT]),
     Row::Shows(
-        2048,
-        2048,
+        2560,
+        2560,
         &[
             Pixel(0, 0, 0, 0, 0),
             Pixel(32, 32, 0, 0, 0),

@@ -62,6 +62,33 @@ fn runs_and_counts(rt: HostRuntime) {
     assert!(rt; is_right);
 }
 
+// The same block again, parts of it, and what reaches over it on each side.
+fn is_marked_again<A: Allocator>(damage: &mut Damage<A>) -> bool {
+    counts(damage, rect(40, 1, 60, 3), 180)
+        && counts(damage, rect(40, 1, 60, 3), 180)
+        && counts(damage, rect(50, 2, 1, 1), 180)
+        && counts(damage, rect(30, 1, 20, 1), 190)
+        && counts(damage, rect(90, 1, 20, 1), 200)
+        && counts(damage, rect(0, 1, 5, 1), 205)
+        && counts(damage, rect(0, 1, 130, 1), 250)
+        && counts(damage, rect(0, 0, 130, 5), 650)
+        && counts(damage, rect(-5, -5, 500, 500), 650)
+}
+
+// What is cleared is marked anew.
+#[test]
+fn blocks_again(rt: HostRuntime) {
+    let is_right = match Damage::new(rt.alloc(), 130, 5) {
+        Ok(mut damage) => {
+            let first = is_marked_again(&mut damage);
+            damage.clear();
+            first && damage.count() == 0 && is_marked_again(&mut damage)
+        }
+        Err(_) => false,
+    };
+    assert!(rt; is_right);
+}
+
 fn has_its_last_column<A: Allocator>(damage: &Damage<A>, width: u32) -> bool
     requires some { 1 ≤ width }
     requires high { 0 < damage.now.height }

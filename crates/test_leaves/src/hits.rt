@@ -3,9 +3,11 @@
 use crate::calls::{commit, create, set_input};
 use std::alloc::Allocator;
 use wl_geom::{Rect, Region};
-use wl_scene::{Stacked, Surfaced, TreeWindow, hit, is_among, takes_input};
+use wl_scene::{
+    Stacked, StackedWindows, Surface, Surfaced, TreeWindow, hit, is_among, takes_input,
+};
 use wl_store::Transform;
-use wl_surface::SurfaceStates;
+use wl_surface::{SurfaceStates, Surfaces};
 
 /// The surfaces of the client 1, which is the only one.
 #[derive(Drop)]
@@ -49,7 +51,7 @@ fn window(client: u32, surface: usize, x: i32, y: i32) -> Stacked {
 }
 
 // The surface 0 takes input within 4 by 4 points, and the surface 1 everywhere.
-fn are_made<A: Allocator + Copy>(surfaces: &mut SurfaceStates<A>, alloc: A) -> bool {
+fn are_made<A: Allocator + Copy>(surfaces: &mut Surfaces<A>, alloc: A) -> bool {
     let mut region = Region::new(alloc);
     let corner = Rect {
         x: 0,
@@ -88,8 +90,45 @@ fn overlap<A: Allocator>(surfaces: &SurfaceStates<A>) -> bool {
 
 #[test]
 fn the_topmost_window_that_takes_the_input_is_hit(rt: HostRuntime) {
-    let mut surfaces = SurfaceStates::new(rt.alloc());
-    assert!(rt; are_made(&mut surfaces, rt.alloc()) && overlap(&surfaces));
-    assert!(rt; takes_input(&window(1, 0, i32::MIN, 0), Some(&surfaces), i32::MIN, 3));
-    assert!(rt; !takes_input(&window(1, 0, i32::MIN, 0), Some(&surfaces), i32::MAX, 3));
+    let mut surfaces = Surfaces::new(rt.alloc());
+    assert!(rt; are_made(&mut surfaces, rt.alloc()) && overlap(&surfaces.states));
+    assert!(rt;
+        takes_input(
+            &window(1, 0, i32::MIN, 0),
+            Some(&surfaces.states),
+            i32::MIN,
+            3
+        )
+    );
+    assert!(rt;
+        !takes_input(
+            &window(1, 0, i32::MIN, 0),
+            Some(&surfaces.states),
+            i32::MAX,
+            3
+        )
+    );
+}
+
+// The same by the windows of the output: the surface 0 stands over the surface 1.
+fn kept_hit<A: Allocator + Copy>(surfaces: &SurfaceStates<A>, alloc: A) -> Option<(bool, bool)> {
+    let mut all = StackedWindows::new(alloc);
+    let windows = [window(1, 1, 0, 0).window, window(1, 0, 2, 2).window];
+    if all.has_toplevel(1, 0) || all.push(1, 0, &windows).is_err() {
+        return None;
+    }
+    let only = Only { surfaces };
+    let upper = Surface {
+        client: 1,
+        surface: 0,
+    };
+    let found = all.hit(&only, 3, 3) == Some(upper);
+    Some((found, all.hit(&only, 10, 10).is_some()))
+}
+
+#[test]
+fn the_surface_of_the_topmost_window_is_hit(rt: HostRuntime) {
+    let mut surfaces = Surfaces::new(rt.alloc());
+    assert!(rt; are_made(&mut surfaces, rt.alloc()));
+    assert_eq!(rt; kept_hit(&surfaces.states, rt.alloc()), Some((true, false)));
 }

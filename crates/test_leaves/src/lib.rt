@@ -9,6 +9,7 @@ mod calls;
 #[cfg(test)]
 mod children;
 #[cfg(test)]
+#[cfg(test)]
 mod damage;
 #[cfg(test)]
 mod family;
@@ -18,6 +19,8 @@ mod held;
 mod hits;
 #[cfg(test)]
 mod images;
+#[cfg(test)]
+mod numbers;
 #[cfg(test)]
 mod painting;
 #[cfg(test)]

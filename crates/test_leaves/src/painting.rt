@@ -159,3 +159,119 @@ fn a_long_row(rt: HostRuntime) {
     let mut stores = Stores::new(rt.alloc());
     assert!(rt; lends_long_row(rt.alloc(), &mut stores));
 }
+
+/// Eight green pixels; and four blue ones and four of half red.
+const PARTS: &[u8] = &[
+    0, 255, 0, 7, 0, 255, 0, 7, 0, 255, 0, 7, 0, 255, 0, 7, 0, 255, 0, 7, 0, 255, 0, 7, 0, 255, 0,
+    7, 0, 255, 0, 7, 255, 0, 0, 255, 255, 0, 0, 255, 255, 0, 0, 255, 255, 0, 0, 255, 0, 0, 128,
+    128, 0, 0, 128, 128, 0, 0, 128, 128, 0, 0, 128, 128,
+];
+
+/// The blue ones from the second column on, with nothing else painted.
+const BLUE_PAINTED: &[u8] = &[
+    255, 255, 255, 255, 255, 0, 0, 255, 255, 0, 0, 255, 255, 0, 0, 255, 255, 0, 0, 255, 255, 255,
+    255, 255, 255, 255, 255, 255, 255, 255, 255, 255, 255, 255, 255, 255,
+];
+
+/// Green before them, and half red over green, and over white in the last column.
+const ALL_PAINTED: &[u8] = &[
+    0, 255, 0, 255, 255, 0, 0, 255, 255, 0, 0, 255, 255, 0, 0, 255, 255, 0, 0, 255, 0, 127, 128,
+    255, 0, 127, 128, 255, 0, 127, 128, 255, 127, 127, 255, 255,
+];
+
+/// What is said to be opaque: rows of points that are added, by their first columns and widths, and one that is taken out.
+type Part<'a> = (&'a [(i32, i32)], (i32, i32));
+
+/// None of it, all that is blue or a part of that, in one rectangle or in two, within the window or beyond it.
+const OPAQUE_PARTS: &[Part] = &[
+    (&[], (0, 0)),
+    (&[(0, 4)], (0, 0)),
+    (&[(0, 2), (2, 2)], (0, 0)),
+    (&[(0, 8)], (4, 4)),
+    (&[(1, 2)], (0, 0)),
+    (&[(-3, 7)], (0, 0)),
+    (&[(-3, 20)], (4, 16)),
+];
+
+fn paints_parts(
+    frame: &mut Framebuffer<Global>,
+    damage: &mut Damage<Global>,
+    windows: &Two<Global>,
+) -> bool
+    requires wide { damage.old.width ≡ frame.old.width }
+    requires high { damage.old.height ≡ frame.old.height }
+{
+    damage.add(row(1, 4));
+    let is_blue = paints(frame, damage, windows, BLUE_PAINTED);
+    damage.add(row(0, 9));
+    is_blue && paints(frame, damage, windows, ALL_PAINTED)
+}
+
+fn paints_nine(frame: &mut Framebuffer<Global>, alloc: Global, windows: &Two<Global>) -> bool
+    requires wide { frame.old.width ≡ 9 }
+    requires high { frame.old.height ≡ 1 }
+{
+    match Damage::new(alloc, 9, 1) {
+        Ok(mut damage) => paints_parts(frame, &mut damage, windows),
+        Err(_) => false,
+    }
+}
+
+fn are_parts_painted(alloc: Global, windows: &Two<Global>) -> bool {
+    match Framebuffer::new(alloc, 9, 1, WHITE) {
+        Ok(mut frame) => paints_nine(&mut frame, alloc, windows),
+        Err(_) => false,
+    }
+}
+
+// Whether the region is this. It was empty.
+fn adds(region: &mut Region<Global>, part: &Part) -> bool {
+    let (rows, (x, w)) = *part;
+    for &(x, w) in rows {
+        if region.add(row(x, w)).is_err() {
+            return false;
+        }
+    }
+    region.subtract(row(x, w)).is_ok()
+}
+
+// The first part with which something else is painted.
+fn first_painted_otherwise(
+    alloc: Global,
+    stores: &Stores<Global>,
+    lower: Layout,
+    upper: Layout,
+) -> Option<usize> {
+    for (place, part) in OPAQUE_PARTS.iter().enumerate() {
+        let mut opaque = Region::new(alloc);
+        let is_added = adds(&mut opaque, part);
+        let windows = Two {
+            stores,
+            store: 1,
+            lower,
+            upper,
+            opaque: &opaque,
+        };
+        if !is_added || !are_parts_painted(alloc, &windows) {
+            return Some(place);
+        }
+    }
+    None
+}
+
+fn lends_parts(alloc: Global, stores: &mut Stores<Global>) -> bool {
+    if stores.create(64) != Ok(1) || stores.write(1, 0, PARTS) != Ok(()) {
+        return false;
+    }
+    match (layout(64, 0, 8, 1, 32, 1), layout(64, 32, 8, 1, 32, 0)) {
+        (Ok(lower), Ok(upper)) => first_painted_otherwise(alloc, stores, lower, upper).is_none(),
+        _ => false,
+    }
+}
+
+// A window that is opaque in part, as its opaque region says, is painted as it is.
+#[test]
+fn a_window_opaque_in_part(rt: HostRuntime) {
+    let mut stores = Stores::new(rt.alloc());
+    assert!(rt; lends_parts(rt.alloc(), &mut stores));
+}

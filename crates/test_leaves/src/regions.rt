@@ -1,6 +1,7 @@
 use std::alloc::{Allocator, Global};
 use test_support::Refusing;
 use wl_geom::{Rect, Region, RegionError};
+use wl_paint::FrameError;
 
 const FOUR_BY_FOUR: Rect = Rect {
     x: 0,
@@ -67,19 +68,33 @@ fn is_met<A: Allocator + Copy>(region: &mut Region<A>, row: &Row) -> bool {
     }
 }
 
+fn has_rects<A: Allocator + Copy>(region: &Region<A>, wanted: &[Rect]) -> bool {
+    match region.rects() {
+        Ok(rects) => &rects[..] == wanted,
+        Err(_) => false,
+    }
+}
+
+fn has_so_many<A: Allocator + Copy>(region: &Region<A>, wanted: usize) -> bool {
+    match region.rects() {
+        Ok(rects) => rects.len() == wanted,
+        Err(_) => false,
+    }
+}
+
 // Whether it is as a row says that does nothing.
-fn is_seen<A: Allocator>(region: &Region<A>, row: &Row) -> bool {
+fn is_seen<A: Allocator + Copy>(region: &Region<A>, row: &Row) -> bool {
     match *row {
         Row::Changes(wanted) => region.changes() == wanted,
         Row::HasPoint(x, y, wanted) => region.contains(x, y) == wanted,
         Row::CoversRun(x, y, w, wanted) => region.covers_run(x, y, w) == wanted,
-        Row::HasRects(wanted) => region.rects() == wanted,
-        Row::HasSoMany(wanted) => region.rects().len() == wanted,
+        Row::HasRects(wanted) => has_rects(region, wanted),
+        Row::HasSoMany(wanted) => has_so_many(region, wanted),
         _ => false,
     }
 }
 
-fn are_seen<A: Allocator>(region: &Region<A>, rows: &[Row]) -> bool {
+fn are_seen<A: Allocator + Copy>(region: &Region<A>, rows: &[Row]) -> bool {
     for row in rows {
         if !is_seen(region, row) {
             return false;
@@ -88,8 +103,16 @@ fn are_seen<A: Allocator>(region: &Region<A>, rows: &[Row]) -> bool {
     true
 }
 
+// Whether both count as many changes and hold the same of some points. It takes no memory.
 fn same<A: Allocator, B: Allocator>(a: &Region<A>, b: &Region<B>) -> bool {
-    a.changes() == b.changes() && a.rects() == b.rects()
+    for x in -1..6_i32 {
+        for y in -1..6_i32 {
+            if a.contains(x, y) != b.contains(x, y) {
+                return false;
+            }
+        }
+    }
+    a.changes() == b.changes() && a.contains(FAR.x, FAR.y) == b.contains(FAR.x, FAR.y)
 }
 
 // Four by four points with a hole of two by two.
@@ -235,7 +258,10 @@ fn regions_are_as_worked(rt: HostRuntime) {
     assert_eq!(rt; missed_case(rt.alloc(), CASES), None);
 }
 
-// How many of three changes and a copy are done where so many allocations are served. None where one is refused though no allocation was, or for
+// How many changes are made where each allocation is refused in turn: so many that the room for them grows while some are left to make.
+const MOST: u32 = 8;
+
+// How many of the changes and a copy are done where so many allocations are served. None where one is refused though no allocation was, or for
 // anything but that memory ran out, or where the region isn't left as it was.
 fn done_before_a_refusal<B: Allocator + Copy>(alloc: B, served: u64) -> Option<u32> {
     let heap = Refusing::new(alloc, served);
@@ -249,38 +275,38 @@ fn changes_and_copies<A: Allocator + Copy, B: Allocator + Copy>(
     known: &mut Region<B>,
     heap: &Refusing<B>,
 ) -> Option<u32> {
-    let done = change(region, 3)?;
-    if change(known, done)? != done || !same(region, known) || heap.refused() != (done < 3) {
+    let done = change(region, MOST)?;
+    if change(known, done)? != done || !same(region, known) || heap.refused() != (done < MOST) {
         return None;
     }
-    if done < 3 {
+    if done < MOST {
         return Some(done);
     }
     copies(region, known, heap)
 }
 
-// 4 where the region is copied, and 3 where the memory for it is refused.
+// One more than the changes where the region is copied, and as many where the memory for it is refused.
 fn copies<A: Allocator + Copy, B: Allocator>(
     region: &Region<A>,
     known: &Region<B>,
     heap: &Refusing<B>,
 ) -> Option<u32> {
     let (is_right, done) = match region.copy() {
-        Ok(copy) => (same(&copy, known) && !heap.refused(), 4),
+        Ok(copy) => (same(&copy, known) && !heap.refused(), MOST + 1),
         Err(error) => (
             error == RegionError::Memory && same(region, known) && heap.refused(),
-            3,
+            MOST,
         ),
     };
     if is_right { Some(done) } else { None }
 }
 
-// Does the first so many of two adds and a subtract, up to the first that is refused: how many were done.
+// Does the first so many of four adds and four subtracts, up to the first that is refused: how many were done.
 fn change<A: Allocator + Copy>(region: &mut Region<A>, most: u32) -> Option<u32> {
     for done in 0..most {
         let changed = match done {
             0 => add(region, FOUR_BY_FOUR),
-            1 => add(region, FAR),
+            1..=3 => add(region, FAR),
             _ => subtract(region, HOLE),
         };
         match changed {
@@ -300,14 +326,20 @@ fn each_refusal_leaves_a_region_as_it_was(rt: HostRuntime) {
     let mut copies = false;
     for served in 0..1000_u64 {
         match done_before_a_refusal(rt.alloc(), served) {
-            Some(0 | 1) => adds = true,
-            Some(2) => subtracts = true,
-            Some(3) => copies = true,
+            Some(0..=3) => adds = true,
+            Some(4..=7) => subtracts = true,
+            Some(MOST) => copies = true,
             Some(_) => break,
             None => assert!(rt; false, "{served}"),
         }
     }
     assert!(rt; adds && subtracts && copies);
+}
+
+#[test]
+fn errors_have_numbers(rt: HostRuntime) {
+    assert!(rt; RegionError::TooMany as u8 == 1 && RegionError::Memory as u8 == 2);
+    assert!(rt; FrameError::BadSize as u8 == 1 && FrameError::Memory as u8 == 2);
 }
 
 // Whether a row of so many points covers a run of them, and none that is a point longer or begins a point before; and none at all

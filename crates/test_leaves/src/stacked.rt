@@ -1,7 +1,7 @@
 use crate::windows::{has_family, window as placed};
 use std::alloc::Allocator;
 use test_support::Refusing;
-use wl_scene::{RootPlace, StackedWindows, TreeWindow, add_trees, add_windows};
+use wl_scene::{RootPlace, StackedWindows, Surface, TreeWindow, Window, add_trees, add_windows};
 use wl_store::Transform;
 use wl_surface::{SurfaceNo, Surfaces};
 
@@ -46,6 +46,35 @@ fn three_toplevels<A: Allocator>(all: &mut StackedWindows<A>) -> bool {
         }
     }
     !all.has_toplevel(1, 7) && all.push(1, 7, &[window(7)]).is_ok()
+}
+
+// Whether these are the windows from bottom to top, each by its client and its surface, where `window` has them.
+fn reads<A: Allocator>(all: &StackedWindows<A>, wanted: &[(u32, SurfaceNo)]) -> bool {
+    let count = all.len();
+    for (k, (client, surface)) in wanted.iter().enumerate() {
+        let read = Window {
+            surface: Surface {
+                client: *client,
+                surface: *surface,
+            },
+            x: 4,
+            y: 5,
+            w: 6,
+            h: 7,
+        };
+        if k >= count || all.window(k) != read {
+            return false;
+        }
+    }
+    count == wanted.len()
+}
+
+#[test]
+fn windows_are_read_one_by_one(rt: HostRuntime) {
+    let mut all = StackedWindows::new(rt.alloc());
+    assert!(rt; reads(&all, &[]));
+    assert!(rt; three_toplevels(&mut all));
+    assert!(rt; reads(&all, &[(1, 3), (1, 4), (2, 5), (2, 3), (1, 7)]));
 }
 
 // xdg_surface: the windows stacked with a toplevel stand together, and others take their place where they stood.

@@ -6,6 +6,7 @@ use wl_geom::{Rect, Region};
 use wl_store::Transform;
 use wl_surface::{
     Attached, BufferNo, MAX_SURFACES, Offset, Role, SurfaceError, SurfaceNo, SurfaceStates,
+    Surfaces,
 };
 
 const FOUR_BY_FOUR: Rect = Rect {
@@ -16,7 +17,7 @@ const FOUR_BY_FOUR: Rect = Rect {
 };
 
 fn attaches<A: Allocator + Copy>(
-    surfaces: &mut SurfaceStates<A>,
+    surfaces: &mut Surfaces<A>,
     surface: SurfaceNo,
     number: BufferNo,
     x: i32,
@@ -26,8 +27,8 @@ fn attaches<A: Allocator + Copy>(
     true
 }
 
-fn detaches<A: Allocator + Copy>(surfaces: &mut SurfaceStates<A>, x: i32, y: i32) -> bool {
-    surfaces.attach(0, None, x, y);
+fn detaches<A: Allocator + Copy>(surfaces: &mut Surfaces<A>, x: i32, y: i32) -> bool {
+    surfaces.states.attach(0, None, x, y);
     true
 }
 
@@ -105,14 +106,9 @@ fn had<A: Allocator>(
 }
 
 // Attaches at this offset, commits, and says whether the surface is at that place then.
-fn moves<A: Allocator + Copy>(
-    surfaces: &mut SurfaceStates<A>,
-    by: (i32, i32),
-    x: i32,
-    y: i32,
-) -> bool {
+fn moves<A: Allocator + Copy>(surfaces: &mut Surfaces<A>, by: (i32, i32), x: i32, y: i32) -> bool {
     attach(surfaces, 0, 7, by.0, by.1);
-    commit(surfaces, 0) == Ok(()) && is_at(surfaces, 0, x, y)
+    commit(surfaces, 0) == Ok(()) && is_at(&surfaces.states, 0, x, y)
 }
 
 fn has_form<A: Allocator>(
@@ -127,10 +123,7 @@ fn has_form<A: Allocator>(
     }
 }
 
-fn sets_both<A: Allocator + Copy>(
-    surfaces: &mut SurfaceStates<A>,
-    region: Option<&Region<A>>,
-) -> bool {
+fn sets_both<A: Allocator + Copy>(surfaces: &mut Surfaces<A>, region: Option<&Region<A>>) -> bool {
     set_opaque(surfaces, region) == Ok(()) && set_input(surfaces, region) == Ok(())
 }
 
@@ -146,20 +139,20 @@ fn is_four_by_four<A: Allocator>(surfaces: &SurfaceStates<A>) -> bool {
         && !takes_input(surfaces, 9, 9)
 }
 
-fn has_counted(surfaces: &mut SurfaceStates<Global>, region: &mut Region<Global>) -> bool {
+fn has_counted(surfaces: &mut Surfaces<Global>, region: &mut Region<Global>) -> bool {
     create(surfaces) == Ok(0)
         && region.add(FOUR_BY_FOUR) == Ok(())
-        && is_unset(surfaces)
+        && is_unset(&surfaces.states)
         && sets_both(surfaces, Some(region))
         && region.subtract(FOUR_BY_FOUR) == Ok(())
-        && is_unset(surfaces)
+        && is_unset(&surfaces.states)
         && commit(surfaces, 0) == Ok(())
-        && is_four_by_four(surfaces)
+        && is_four_by_four(&surfaces.states)
         && commit(surfaces, 0) == Ok(())
-        && is_four_by_four(surfaces)
+        && is_four_by_four(&surfaces.states)
 }
 
-fn creates_256<A: Allocator + Copy>(surfaces: &mut SurfaceStates<A>) -> bool {
+fn creates_256<A: Allocator + Copy>(surfaces: &mut Surfaces<A>) -> bool {
     for number in 0..256_usize {
         if create(surfaces) != Ok(number) {
             return false;
@@ -218,7 +211,7 @@ pub(crate) enum Row {
 }
 
 // Does what a row says, and tells whether it is as wanted.
-fn is_met<A: Allocator + Copy>(surfaces: &mut SurfaceStates<A>, row: &Row) -> bool {
+fn is_met<A: Allocator + Copy>(surfaces: &mut Surfaces<A>, row: &Row) -> bool {
     match *row {
         Row::Creates(wanted) => create(surfaces) == wanted,
         Row::Creates256 => creates_256(surfaces),
@@ -228,10 +221,10 @@ fn is_met<A: Allocator + Copy>(surfaces: &mut SurfaceStates<A>, row: &Row) -> bo
         Row::CannotCommit => commit(surfaces, 0) == Err(SurfaceError::Memory),
         Row::Destroys(surface) => destroy(surfaces, surface) == Ok(()),
         Row::Damages => damage(surfaces, FOUR_BY_FOUR) == Ok(()),
-        Row::Turns(number, wanted) => surfaces.set_transform(0, number) == wanted,
-        Row::TakesRole(surface, role, wanted) => surfaces.give_role(surface, role) == wanted,
+        Row::Turns(number, wanted) => surfaces.states.set_transform(0, number) == wanted,
+        Row::TakesRole(surface, role, wanted) => surfaces.states.give_role(surface, role) == wanted,
         Row::Moves(by, x, y) => moves(surfaces, by, x, y),
-        _ => is_seen(surfaces, row),
+        _ => is_seen(&surfaces.states, row),
     }
 }
 
@@ -255,7 +248,7 @@ fn is_seen<A: Allocator>(surfaces: &SurfaceStates<A>, row: &Row) -> bool {
     }
 }
 
-fn are_met<A: Allocator + Copy>(surfaces: &mut SurfaceStates<A>, rows: &[Row]) -> bool {
+fn are_met<A: Allocator + Copy>(surfaces: &mut Surfaces<A>, rows: &[Row]) -> bool {
     for row in rows {
         if !is_met(surfaces, row) {
             return false;
@@ -265,7 +258,7 @@ fn are_met<A: Allocator + Copy>(surfaces: &mut SurfaceStates<A>, rows: &[Row]) -
 }
 
 // Does what a row says of no region, or of anything else.
-fn is_met_or_unset(surfaces: &mut SurfaceStates<Global>, row: &Row) -> bool {
+fn is_met_or_unset(surfaces: &mut Surfaces<Global>, row: &Row) -> bool {
     match *row {
         Row::UnsetsOpaque => set_opaque(surfaces, None) == Ok(()),
         Row::UnsetsInput => set_input(surfaces, None) == Ok(()),
@@ -273,7 +266,7 @@ fn is_met_or_unset(surfaces: &mut SurfaceStates<Global>, row: &Row) -> bool {
     }
 }
 
-fn missed_row(surfaces: &mut SurfaceStates<Global>, rows: &[Row]) -> Option<usize> {
+fn missed_row(surfaces: &mut Surfaces<Global>, rows: &[Row]) -> Option<usize> {
     for (place, row) in rows.iter().enumerate() {
         if !is_met_or_unset(surfaces, row) {
             return Some(place);
@@ -283,7 +276,7 @@ fn missed_row(surfaces: &mut SurfaceStates<Global>, rows: &[Row]) -> Option<usiz
 }
 
 // The part and its row that are the first not to be met.
-fn missed(surfaces: &mut SurfaceStates<Global>, parts: &[&[Row]]) -> Option<(usize, usize)> {
+fn missed(surfaces: &mut Surfaces<Global>, parts: &[&[Row]]) -> Option<(usize, usize)> {
     for (part, rows) in parts.iter().enumerate() {
         if let Some(place) = missed_row(surfaces, rows) {
             return Some((part, place));
@@ -293,7 +286,7 @@ fn missed(surfaces: &mut SurfaceStates<Global>, parts: &[&[Row]]) -> Option<(usi
 }
 
 fn missed_by(alloc: Global, parts: &[&[Row]]) -> Option<(usize, usize)> {
-    let mut surfaces = SurfaceStates::new(alloc);
+    let mut surfaces = Surfaces::new(alloc);
     missed(&mut surfaces, parts)
 }
 
@@ -335,7 +328,7 @@ const UNSETS: &[Row] = &[
 // What a region becomes once it was set isn't seen, and a region counts from the commit on.
 #[test]
 fn regions_count_from_the_commit_on(rt: HostRuntime) {
-    let mut surfaces = SurfaceStates::new(rt.alloc());
+    let mut surfaces = Surfaces::new(rt.alloc());
     let mut region = Region::new(rt.alloc());
     assert!(rt; has_counted(&mut surfaces, &mut region));
     assert_eq!(rt; missed_row(&mut surfaces, UNSETS), None);
@@ -366,7 +359,7 @@ const COMMITTED: &[Row] = &[
 ];
 
 // Makes surfaces up to the first that is refused as out of memory: how many were made. None where another error comes.
-fn made<A: Allocator + Copy>(surfaces: &mut SurfaceStates<A>) -> Option<SurfaceNo> {
+fn made<A: Allocator + Copy>(surfaces: &mut Surfaces<A>) -> Option<SurfaceNo> {
     for number in 0..256_usize {
         match create(surfaces) {
             Ok(made) if made == number => {}
@@ -378,18 +371,18 @@ fn made<A: Allocator + Copy>(surfaces: &mut SurfaceStates<A>) -> Option<SurfaceN
 }
 
 // Whether the next is refused once more, and those that were made, and no other, are there.
-fn has_only<A: Allocator + Copy>(surfaces: &mut SurfaceStates<A>, made: SurfaceNo) -> bool {
+fn has_only<A: Allocator + Copy>(surfaces: &mut Surfaces<A>, made: SurfaceNo) -> bool {
     for number in 0..made {
-        if surfaces.current(number).is_none() {
+        if surfaces.states.current(number).is_none() {
             return false;
         }
     }
-    create(surfaces) == Err(SurfaceError::Memory) && surfaces.current(made).is_none()
+    create(surfaces) == Err(SurfaceError::Memory) && surfaces.states.current(made).is_none()
 }
 
 // Whether surfaces are made up to a refusal, and those stay.
 fn keeps_what_was_made<A: Allocator + Copy, B: Allocator>(
-    surfaces: &mut SurfaceStates<A>,
+    surfaces: &mut Surfaces<A>,
     heap: &Refusing<B>,
 ) -> bool {
     match made(surfaces) {
@@ -400,7 +393,7 @@ fn keeps_what_was_made<A: Allocator + Copy, B: Allocator>(
 
 fn makes_up_to_a_refusal<B: Allocator + Copy>(alloc: B, served: u64) -> bool {
     let heap = Refusing::new(alloc, served);
-    let mut surfaces = SurfaceStates::new(&heap);
+    let mut surfaces = Surfaces::new(&heap);
     keeps_what_was_made(&mut surfaces, &heap)
 }
 
@@ -413,7 +406,7 @@ fn a_surface_without_memory_is_not_made(rt: HostRuntime) {
 
 // Makes a surface, attaches buffer 7 at (1, 2), damages and commits, up to the first call that is refused as out of memory: how many of the three
 // that take memory were done. None where a call answers what it can't.
-fn done_before_a_refusal<A: Allocator + Copy>(surfaces: &mut SurfaceStates<A>) -> Option<u32> {
+fn done_before_a_refusal<A: Allocator + Copy>(surfaces: &mut Surfaces<A>) -> Option<u32> {
     match create(surfaces) {
         Ok(0) => {}
         Err(SurfaceError::Memory) => return Some(0),
@@ -434,7 +427,7 @@ fn done_before_a_refusal<A: Allocator + Copy>(surfaces: &mut SurfaceStates<A>) -
 
 // How many of the three were done. None where the surfaces aren't what these made of them.
 fn leaves<A: Allocator + Copy, B: Allocator>(
-    surfaces: &mut SurfaceStates<A>,
+    surfaces: &mut Surfaces<A>,
     heap: &Refusing<B>,
 ) -> Option<u32> {
     let done = done_before_a_refusal(surfaces)?;
@@ -449,7 +442,7 @@ fn leaves<A: Allocator + Copy, B: Allocator>(
 
 fn done_where_served<B: Allocator + Copy>(alloc: B, served: u64) -> Option<u32> {
     let heap = Refusing::new(alloc, served);
-    let mut surfaces = SurfaceStates::new(&heap);
+    let mut surfaces = Surfaces::new(&heap);
     leaves(&mut surfaces, &heap)
 }
 
@@ -470,7 +463,7 @@ fn damage_and_commit_without_memory(rt: HostRuntime) {
     assert!(rt; damages && commits);
 }
 
-fn damages<A: Allocator + Copy>(surfaces: &mut SurfaceStates<A>, times: u32) -> bool {
+fn damages<A: Allocator + Copy>(surfaces: &mut Surfaces<A>, times: u32) -> bool {
     for _ in 0..times {
         if damage(surfaces, FOUR_BY_FOUR) != Ok(()) {
             return false;
@@ -480,7 +473,7 @@ fn damages<A: Allocator + Copy>(surfaces: &mut SurfaceStates<A>, times: u32) -> 
 }
 
 fn takes_no_more_memory<A: Allocator + Copy, B: Allocator>(
-    surfaces: &mut SurfaceStates<A>,
+    surfaces: &mut Surfaces<A>,
     heap: &Refusing<B>,
 ) -> bool {
     if create(surfaces) != Ok(0) || !damages(surfaces, 1025) {
@@ -494,15 +487,12 @@ fn takes_no_more_memory<A: Allocator + Copy, B: Allocator>(
 #[test]
 fn damage_without_end(rt: HostRuntime) {
     let heap = Refusing::new(rt.alloc(), 1000);
-    let mut surfaces = SurfaceStates::new(&heap);
+    let mut surfaces = Surfaces::new(&heap);
     assert!(rt; takes_no_more_memory(&mut surfaces, &heap));
 }
 
 // Sets both regions, up to the first that is refused as out of memory: how many were set. None where a call answers what it can't.
-fn set_both<A: Allocator + Copy>(
-    surfaces: &mut SurfaceStates<A>,
-    region: &Region<A>,
-) -> Option<u32> {
+fn set_both<A: Allocator + Copy>(surfaces: &mut Surfaces<A>, region: &Region<A>) -> Option<u32> {
     match set_opaque(surfaces, Some(region)) {
         Ok(()) => {}
         Err(SurfaceError::Memory) => return Some(0),
@@ -517,7 +507,7 @@ fn set_both<A: Allocator + Copy>(
 
 // How many regions were set, and 3 where a commit was done after both. None where an allocation was refused to both, or none to one.
 fn sets_and_commits<A: Allocator + Copy, B: Allocator>(
-    surfaces: &mut SurfaceStates<A>,
+    surfaces: &mut Surfaces<A>,
     region: &Region<A>,
     heap: &Refusing<B>,
 ) -> Option<u32> {
@@ -534,7 +524,7 @@ fn sets_and_commits<A: Allocator + Copy, B: Allocator>(
 
 // 2 where there is no memory for a surface and a region.
 fn sets_a_region<A: Allocator + Copy, B: Allocator>(
-    surfaces: &mut SurfaceStates<A>,
+    surfaces: &mut Surfaces<A>,
     region: &mut Region<A>,
     heap: &Refusing<B>,
 ) -> Option<u32> {
@@ -542,7 +532,7 @@ fn sets_a_region<A: Allocator + Copy, B: Allocator>(
         return Some(2);
     }
     let set = sets_and_commits(surfaces, region, heap)?;
-    if set < 3 || is_four_by_four(surfaces) {
+    if set < 3 || is_four_by_four(&surfaces.states) {
         Some(set)
     } else {
         None
@@ -552,7 +542,7 @@ fn sets_a_region<A: Allocator + Copy, B: Allocator>(
 // No region can be set in any case: it takes no memory.
 fn set_where_served(alloc: Global, served: u64) -> Option<u32> {
     let heap = Refusing::new(alloc, served);
-    let mut surfaces = SurfaceStates::new(&heap);
+    let mut surfaces = Surfaces::new(&heap);
     let mut region = Region::new(&heap);
     let set = sets_a_region(&mut surfaces, &mut region, &heap);
     let is_unset = sets_both(&mut surfaces, None);

@@ -37,10 +37,10 @@ const REFUSED_2: &[Row] = &[Row::Accepts(
     &[DISMISSED],
 )];
 
-const REFUSED_0: &[Row] = &[Row::Accepts(
-    Message(17, 1, &[Arg::Object(12), Arg::Uint(0)]),
-    &[DISMISSED],
-)];
+/// The serial of the toplevel's first configure is none of a press.
+const GRAB_1: Message = Message(17, 1, &[Arg::Object(12), Arg::Uint(1)]);
+
+const REFUSED_1: &[Row] = &[Row::Accepts(GRAB_1, &[DISMISSED])];
 
 const REFUSED_5: &[Row] = &[Row::Accepts(
     Message(17, 1, &[Arg::Object(12), Arg::Uint(5)]),
@@ -123,7 +123,7 @@ const PRESSES_IN_VAIN: &[Row] = &[RELEASE, Row::Waits(1, Some(&[]))];
 /// A popup that is mapped can't grab: its client ends, and its windows go.
 const GRABS_MAPPED: &[Row] = &[
     Row::Shows(64, 64, &[]),
-    Row::Errs(GRAB_3, 17, 0),
+    Row::Errs(GRAB_1, 17, 0),
     Row::ErrorTold(17, 0, b"invalid_grab"),
     Row::Is(
         1,
@@ -219,13 +219,13 @@ const BY_PRESS_OR_RELEASE: &[Case] = &[
         ],
     ),
     (
-        "refused before any press, with the serial of no event",
+        "refused before any press, with the serial of a configure",
         &[
             SEATED,
             SURFACE,
             POSITIONER,
             GETS,
-            REFUSED_0,
+            REFUSED_1,
             STAYS_DISMISSED,
         ],
     ),

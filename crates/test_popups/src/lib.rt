@@ -17,6 +17,8 @@ mod repositions;
 #[cfg(test)]
 mod rivals;
 #[cfg(test)]
+mod stacked;
+#[cfg(test)]
 mod submenus;
 #[cfg(test)]
 mod support;

@@ -266,12 +266,12 @@ const SECOND_GOES: &[Row] = &[
     ),
 ];
 
-/// The pointer goes to (5, 4), over the toplevel of the client 1 alone.
+/// The pointer goes to (5, 5), over the toplevel of the client 1 alone.
 const TO_FIRST: Row = Row::Calls(
     Step::Motion {
         time: 4,
         x: 5,
-        y: 4,
+        y: 5,
     },
     Done::Motion,
 );

@@ -1,7 +1,9 @@
 //! Images, and files beside a recording.
 
 use crate::support::{file_name, folder, joined, path_in, plays, told};
+use std::alloc::Global;
 use std::fs;
+use test_support::Refusing;
 use wl_program::{Folder, Status};
 use wl_replay::{SideFault, SideFiles};
 
@@ -32,12 +34,24 @@ fn writes_images(rt: HostRuntime) {
 fn reads(side: &mut Folder<HostRuntime>, name: &str, inside: &str) -> bool {
     let mut buf = [0u8; 8];
     side.read(&mut buf) == Ok(0)
-        && side.open(name) == Ok(true)
+        && side.open(name, 0) == Ok(true)
         && side.read(&mut buf) == Ok(6)
         && buf == *b"pixels\0\0"
         && side.read(&mut buf) == Ok(0)
         && side.faults() == 0
-        && side.open(inside) == Err(SideFault)
+        && side.open(inside, 0) == Err(SideFault)
+        && side.read(&mut buf) == Ok(0)
+}
+
+/// Reads a file of six bytes from a byte of it on, and from its end and beyond.
+fn reads_from(side: &mut Folder<HostRuntime>, name: &str) -> bool {
+    let mut buf = [0u8; 8];
+    side.open(name, 2) == Ok(true)
+        && side.read(&mut buf) == Ok(4)
+        && buf == *b"xels\0\0\0\0"
+        && side.open(name, 6) == Ok(true)
+        && side.read(&mut buf) == Ok(0)
+        && side.open(name, u32::MAX) == Ok(true)
         && side.read(&mut buf) == Ok(0)
 }
 
@@ -49,9 +63,10 @@ fn has_read(rt: &HostRuntime) -> Option<bool> {
     let inside = joined(rt.alloc(), name.as_str(), "/inside")?;
     fs::write(rt, path.as_str(), b"pixels").ok()?;
     let mut side = Folder::new(rt, folder.as_str());
-    let read = reads(&mut side, name.as_str(), inside.as_str());
+    let read = reads(&mut side, name.as_str(), inside.as_str())
+        && reads_from(&mut side, name.as_str());
     fs::remove_file(rt, path.as_str()).ok()?;
-    Some(read && side.open(name.as_str()) == Ok(false) && side.faults() == 1)
+    Some(read && side.open(name.as_str(), 0) == Ok(false) && side.faults() == 1)
 }
 
 #[test]
@@ -115,4 +130,26 @@ fn tells_of_side_files(rt: HostRuntime) {
         let status = plays_line(&rt, folder, line, FAILED);
         assert_eq!(rt; status, Some(Status::Failed), "{folder}");
     }
+}
+
+/// Whether opening a file in a folder is a fault, and one of memory or not.
+fn faults(rt: &HostRuntime, heap: &Refusing<Global>, name: &str, lacks_memory: bool) -> bool {
+    let files = (rt, heap);
+    let mut side = Folder::new(&files, "/");
+    side.open(name, 0) == Err(SideFault)
+        && side.faults() == 1
+        && side.lacks_memory() == lacks_memory
+}
+
+#[test]
+fn tells_want_of_memory_from_a_bad_file(rt: HostRuntime) {
+    assert!(rt; faults(&rt, &Refusing::new(rt.alloc(), 0), "dev", true));
+    assert!(rt;
+        faults(
+            &rt,
+            &Refusing::new(rt.alloc(), 1000),
+            "dev/null/inside",
+            false
+        )
+    );
 }

@@ -1,6 +1,9 @@
 use crate::support::{ends, plays, printed, told};
 use test_support::{FaultyReader, FaultyWriter, Refusing};
 use wl_program::Status;
+use wl_replay::ReplayError;
+use wl_server::TurnError;
+use wl_session::ConnectError;
 
 const SYNC: &[u8] = b"connect\nbytes 1 01000000 00000c00 02000000\ntick 0\n";
 
@@ -116,7 +119,7 @@ fn prints_its_version(rt: HostRuntime) {
 const SAID: &[(&str, &str)] = &[
     (
         "wlframe replay a.rec",
-        "A recording comes on standard input",
+        "error: unexpected argument 'a.rec' found\n\nUsage: wlframe replay [OPTIONS]\n",
     ),
     ("wlframe serve --socket here", "--turns <N>"),
     ("wlframe serve --rate 60", "--socket <PATH>"),
@@ -250,4 +253,20 @@ fn tells_want_of_memory(rt: HostRuntime) {
         }
     }
     assert!(rt; false, "memory was refused in each run");
+}
+
+/// Each error of a replay. Lines have no say in its number.
+const REPLAY_ERRORS: [ReplayError; 5] = [
+    ReplayError::Read,
+    ReplayError::Write,
+    ReplayError::BadLine(9),
+    ReplayError::Side(9),
+    ReplayError::Memory,
+];
+
+#[test]
+fn errors_have_their_numbers(rt: HostRuntime) {
+    assert!(rt; ConnectError::Full as u8 == 1 && ConnectError::Memory as u8 == 2);
+    assert!(rt; TurnError::Write as u8 == 1);
+    assert!(rt; REPLAY_ERRORS.map(ReplayError::number) == [1, 2, 3, 4, 5]);
 }

@@ -1,12 +1,12 @@
 //! Sessions as tables: rows of what is done in a session, or of how it is, each with what is wanted of it.
 
 use std::alloc::Global;
-use wl_session::{Cause, Config, Done, Fed, Rgb, Session, Step, Stored};
+use wl_session::{Cause, Config, Done, Fed, Rgb, Session, ShownWindow, Step, Stored};
 use wl_wire::{Arg, put};
 
 pub const CONFIG: Config = Config {
     width: 64,
-    height: 48,
+    height: 64,
     background: Rgb { r: 0, g: 0, b: 0 },
 };
 
@@ -74,6 +74,13 @@ pub enum Row<'a> {
     Spoils(u32, u32, &'a [u8], Span),
     /// A tick: how many points of its frame are damaged at least and at most, and some of its pixels.
     Shows(u32, u32, &'a [Pixel]),
+    /// The windows of the output, from bottom to top.
+    Stacked(&'a [ShownWindow]),
+    /// A tick at a time, and how many points of its frame are damaged.
+    Ticks(u32, u32),
+    /// The client 1 asks for its toplevel 8 to be maximized as often as there are serials from the one to before the other. Each time it is told a
+    /// configure of the toplevel and one of the xdg_surface 7, with the next of these serials, which are taken.
+    Maximizes(u32, u32),
     /// How a client is.
     Is(u32, Fed),
     /// The bytes that wait for a client. None where no client has the number.
@@ -219,6 +226,17 @@ fn shows(session: &mut Session<Global>, least: u32, most: u32, pixels: &[Pixel])
     let count = frame.damage.count();
     let bytes = frame.pixels.pixels();
     least <= count && count <= most && pixels.iter().all(|pixel| is_pixel(bytes, 64, pixel))
+}
+
+/// Whether these are the windows of the output, from bottom to top.
+pub fn are_windows(session: &Session<Global>, wanted: &[ShownWindow]) -> bool {
+    let count = session.window_count();
+    for (k, window) in wanted.iter().enumerate() {
+        if k >= count || session.window(k) != *window {
+            return false;
+        }
+    }
+    count == wanted.len()
 }
 
 impl Span {
@@ -423,6 +441,25 @@ fn change(alloc: Global, session: &mut Session<Global>, count: u32, messages: &[
     true
 }
 
+/// xdg_toplevel.configure of the toplevel 8: of no size, and activated.
+const CONFIGURED: Message = Message(8, 0, &[Arg::Int(0), Arg::Int(0), Arg::Array(&[4, 0, 0, 0])]);
+
+fn maximize(alloc: Global, session: &mut Session<Global>, first: u32, past: u32) -> bool {
+    for serial in first..past {
+        let args = [Arg::Uint(serial)];
+        let told = [CONFIGURED, Message(7, 0, &args)];
+        if !accepts(alloc, session, Message(8, 9, &[]), &told) {
+            return false;
+        }
+    }
+    true
+}
+
+fn ticks(session: &mut Session<Global>, time: u32, count: u32) -> bool {
+    let frame = session.tick(time);
+    frame.time == time && frame.damage.count() == count
+}
+
 /// Does what a row says, and tells whether it is as wanted.
 fn is_met(alloc: Global, session: &mut Session<Global>, row: &Row) -> bool {
     match *row {
@@ -463,6 +500,9 @@ fn is_met(alloc: Global, session: &mut Session<Global>, row: &Row) -> bool {
             spoil(alloc, session, &place, pixel, span)
         }
         Row::Shows(least, most, pixels) => shows(session, least, most, pixels),
+        Row::Stacked(windows) => are_windows(session, windows),
+        Row::Ticks(time, count) => ticks(session, time, count),
+        Row::Maximizes(first, past) => maximize(alloc, session, first, past),
         Row::Is(client, wanted) => session.status(client) == wanted,
         Row::Waits(client, Some(bytes)) => has_out(session, client, bytes),
         Row::Waits(client, None) => session.out(client).is_none(),

@@ -161,9 +161,9 @@ impl SideFiles for OneFile<'_> {
 
     ghost gives = { λ _ _ _. ⊤ };
 
-    ghost opens = { λ _ _ _ _. ⊤ };
+    ghost opens = { λ _ _ _ _ _. ⊤ };
 
-    fn open(&mut self, name: &str) -> Result<bool, SideFault> {
+    fn open(&mut self, name: &str, _from: u32) -> Result<bool, SideFault> {
         let is_there = name == self.name;
         if is_there {
             self.opened = self.opened.saturating_add(1);

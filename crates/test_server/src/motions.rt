@@ -10,7 +10,7 @@ use wl_session::Session;
 /// The globals wl_compositor, wl_shm, xdg_wm_base and wl_seat are bound as 3, 4, 5 and 12, and the wl_pointer 13 is made; a toplevel of the surface 6
 /// gets its first commit and acknowledges the configure of serial 1; a buffer of 2 by 1 pixels of a pool of 8 bytes is attached, and the
 /// surface is committed.
-const WINDOW: &[u8] = b"\x01\0\0\0\x01\0\x0c\0\x02\0\0\0\
+pub(crate) const WINDOW: &[u8] = b"\x01\0\0\0\x01\0\x0c\0\x02\0\0\0\
 \x02\0\0\0\0\0\x28\0\x01\0\0\0\x0e\0\0\0wl_compositor\0\0\0\x02\0\0\0\x03\0\0\0\
 \x02\0\0\0\0\0\x20\0\x03\0\0\0\x07\0\0\0wl_shm\0\0\x01\0\0\0\x04\0\0\0\
 \x02\0\0\0\0\0\x24\0\x06\0\0\0\x0c\0\0\0xdg_wm_base\0\x01\0\0\0\x05\0\0\0\
@@ -28,7 +28,7 @@ const WINDOW: &[u8] = b"\x01\0\0\0\x01\0\x0c\0\x02\0\0\0\
 
 /// The first motion is due in the second turn, the two after it in the third, the press in the fourth, and what is behind it in the sixth: the
 /// release waits for the motion before it.
-const LINES: &[PointerLine] = &[
+pub(crate) const LINES: &[PointerLine] = &[
     PointerLine::Skip,
     PointerLine::Motion {
         time: 2,
@@ -68,7 +68,7 @@ const LINES: &[PointerLine] = &[
 ];
 
 /// wl_pointer.enter with the serial 2, of the surface 6 at (1, 0).
-const ENTER: &[u8] = b"\x0d\0\0\0\0\0\x18\0\x02\0\0\0\x06\0\0\0\0\x01\0\0\0\0\0\0";
+pub(crate) const ENTER: &[u8] = b"\x0d\0\0\0\0\0\x18\0\x02\0\0\0\x06\0\0\0\0\x01\0\0\0\0\0\0";
 
 /// wl_pointer.motion at the time 3 at (0, 0), and at the time 2 at (1, 0), which is as far as the output goes.
 const MOTIONS: &[u8] = b"\x0d\0\0\0\x02\0\x14\0\x03\0\0\0\0\0\0\0\0\0\0\0\

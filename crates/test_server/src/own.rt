@@ -31,9 +31,9 @@ impl SideFiles for Endless {
 
     ghost gives = { λ _ _ _. ⊤ };
 
-    ghost opens = { λ _ _ _ _. ⊤ };
+    ghost opens = { λ _ _ _ _ _. ⊤ };
 
-    fn open(&mut self, name: &str) -> Result<bool, SideFault> {
+    fn open(&mut self, name: &str, _from: u32) -> Result<bool, SideFault> {
         Ok(name == "2.1")
     }
 

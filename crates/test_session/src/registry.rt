@@ -54,7 +54,7 @@ const OBJECTS_TOLD: &[Row] = &[
         Message(
             6,
             1,
-            &[Arg::Uint(3), Arg::Int(64), Arg::Int(48), Arg::Int(0)],
+            &[Arg::Uint(3), Arg::Int(64), Arg::Int(64), Arg::Int(0)],
         ),
         Message(7, 0, &[Arg::Uint(1)]),
     ]),

@@ -177,13 +177,13 @@ const MAPPED_AGAIN: &[Row] = &[
     Row::Sends(Message(6, 1, &[Arg::Object(10), Arg::Int(0), Arg::Int(0)])),
     Row::Sends(COMMIT),
     Row::Shows(
-        512,
-        512,
+        1024,
+        1024,
         &[
             Pixel(0, 0, 0, 0, 0),
             Pixel(31, 31, 0, 0, 0),
             Pixel(32, 32, 255, 0, 0),
-            Pixel(63, 47, 255, 0, 0),
+            Pixel(63, 63, 255, 0, 0),
         ],
     ),
 ];
@@ -254,14 +254,14 @@ const SECOND_BUFFER: &[Row] = &[
 
 /// Half red over white, and over the background; the other window is as it was.
 const SHOWS_BOTH: &[Row] = &[Row::Shows(
-    512,
-    512,
+    1024,
+    1024,
     &[
         Pixel(31, 31, 255, 255, 255),
         Pixel(32, 32, 255, 127, 127),
         Pixel(39, 39, 255, 127, 127),
         Pixel(40, 32, 128, 0, 0),
-        Pixel(63, 47, 128, 0, 0),
+        Pixel(63, 63, 128, 0, 0),
     ],
 )];
 
@@ -425,7 +425,7 @@ const OTHER_STAYS: &[Row] = &[
         &[
             Pixel(31, 31, 0, 0, 0),
             Pixel(32, 32, 128, 0, 0),
-            Pixel(63, 47, 128, 0, 0),
+            Pixel(63, 63, 128, 0, 0),
         ],
     ),
 ];

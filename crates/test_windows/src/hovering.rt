@@ -6,12 +6,12 @@ use test_rows::rows::{Case, Message, Pixel, Row};
 use wl_session::{Cause, Done, Fed, Step};
 use wl_wire::{Arg, Fixed};
 
-/// The pointer goes to (5, 4), over the window.
+/// The pointer goes to (5, 5), over the window.
 pub(crate) const COMES: Row = Row::Calls(
     Step::Motion {
-        time: 1,
+        time: 10,
         x: 5,
-        y: 4,
+        y: 5,
     },
     Done::Motion,
 );
@@ -24,7 +24,7 @@ pub(crate) const ENTERED: Message = Message(
         Arg::Uint(2),
         Arg::Object(6),
         Arg::Fixed(Fixed(1280)),
-        Arg::Fixed(Fixed(1024)),
+        Arg::Fixed(Fixed(1280)),
     ],
 );
 

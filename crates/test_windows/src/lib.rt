@@ -14,6 +14,8 @@ mod releases;
 #[cfg(test)]
 mod scales;
 #[cfg(test)]
+mod stacked;
+#[cfg(test)]
 mod subsurfaces;
 #[cfg(test)]
 mod toplevels;

@@ -11,7 +11,7 @@ use wl_session::{Cause, Done, Fed, Step};
 use wl_wire::{Arg, Fixed};
 
 /// The left button is pressed at the time 11, and released at the time 13.
-const PRESS: Step = Step::Button {
+pub(crate) const PRESS: Step = Step::Button {
     time: 11,
     button: 272,
     pressed: true,
@@ -36,7 +36,7 @@ const RELEASED: Message = Message(
     &[Arg::Uint(4), Arg::Uint(13), Arg::Uint(272), Arg::Uint(0)],
 );
 
-/// The pointer comes to (5, 4), over the window, and the button is pressed there.
+/// The pointer comes to (5, 5), over the window, and the button is pressed there.
 const HOLDS: &[Row] = &[
     COMES,
     Row::Told(&[ENTERED]),
@@ -51,8 +51,8 @@ const HELD: &[Row] = &[
     Row::Steps(
         Step::Motion {
             time: 12,
-            x: 60,
-            y: 40,
+            x: 50,
+            y: 50,
         },
         Done::Motion,
     ),
@@ -61,8 +61,8 @@ const HELD: &[Row] = &[
         2,
         &[
             Arg::Uint(12),
-            Arg::Fixed(Fixed(15360)),
-            Arg::Fixed(Fixed(10240)),
+            Arg::Fixed(Fixed(12800)),
+            Arg::Fixed(Fixed(12800)),
         ],
     )]),
     Row::Takes,
@@ -95,11 +95,11 @@ const SHOWS_RED: &[Row] = &[Row::Shows(1600, 1600, &[Pixel(0, 0, 255, 0, 0)])];
 /// xdg_toplevel.move of the toplevel 8 with the serial of the press.
 const MOVE: Message = Message(8, 5, &[Arg::Object(12), Arg::Uint(3)]);
 
-/// The pointer goes to (7, 5), 2 to the right and 1 down.
+/// The pointer goes to (6, 5), one to the right.
 const GOES: Row = Row::Calls(
     Step::Motion {
         time: 12,
-        x: 7,
+        x: 6,
         y: 5,
     },
     Done::Motion,
@@ -111,27 +111,26 @@ const GONE_OVER: Message = Message(
     2,
     &[
         Arg::Uint(12),
-        Arg::Fixed(Fixed(1792)),
+        Arg::Fixed(Fixed(1536)),
         Arg::Fixed(Fixed(1280)),
     ],
 );
 
-/// The window goes along with the pointer, which tells nothing, until the button is up; then it stays at (2, 1).
+/// The window goes along with the pointer, which tells nothing, until the button is up; then it stays at (1, 0).
 const MOVED: &[Row] = &[
     Row::Sends(MOVE),
     Row::Waits(1, Some(&[])),
     GOES,
     Row::Waits(1, Some(&[])),
     Row::Shows(
-        1718,
-        1718,
+        1640,
+        1640,
         &[
-            Pixel(1, 1, 0, 0, 0),
-            Pixel(2, 0, 0, 0, 0),
-            Pixel(2, 1, 255, 0, 0),
-            Pixel(41, 40, 255, 0, 0),
-            Pixel(42, 40, 0, 0, 0),
-            Pixel(41, 41, 0, 0, 0),
+            Pixel(0, 0, 0, 0, 0),
+            Pixel(1, 0, 255, 0, 0),
+            Pixel(40, 39, 255, 0, 0),
+            Pixel(41, 39, 0, 0, 0),
+            Pixel(40, 40, 0, 0, 0),
         ],
     ),
     Row::Calls(RELEASE, Done::Button),
@@ -150,11 +149,11 @@ const MOVED: &[Row] = &[
         2,
         &[
             Arg::Uint(14),
-            Arg::Fixed(Fixed(1536)),
-            Arg::Fixed(Fixed(1024)),
+            Arg::Fixed(Fixed(1792)),
+            Arg::Fixed(Fixed(1280)),
         ],
     )]),
-    Row::Shows(0, 0, &[Pixel(2, 1, 255, 0, 0)]),
+    Row::Shows(0, 0, &[Pixel(1, 0, 255, 0, 0)]),
 ];
 
 /// With another serial than that of the press nothing is moved.
@@ -217,14 +216,14 @@ const STAYS: &[Row] = &[
     GOES,
     Row::Waits(1, Some(&[])),
     Row::Shows(
-        2048,
-        2048,
+        2560,
+        2560,
         &[
             Pixel(0, 0, 0, 0, 0),
             Pixel(31, 32, 0, 0, 0),
             Pixel(32, 31, 0, 0, 0),
             Pixel(32, 32, 255, 0, 0),
-            Pixel(63, 47, 255, 0, 0),
+            Pixel(63, 63, 255, 0, 0),
         ],
     ),
     Row::Calls(RELEASE, Done::Button),
@@ -242,8 +241,8 @@ const SECOND_WINDOW: &[Row] = &[
     Row::Sends(Message(14, 1, &[Arg::Object(11), Arg::Int(0), Arg::Int(0)])),
     Row::Sends(Message(14, 6, &[])),
     Row::Shows(
-        2048,
-        2048,
+        2560,
+        2560,
         &[Pixel(31, 32, 255, 0, 0), Pixel(32, 32, 0, 255, 0)],
     ),
     COMES,
@@ -275,10 +274,29 @@ const RAISED: &[Row] = &[
 
 /// A press over another client's window puts that on top: the nine red points come out from below the green square.
 const RAISED_ABOVE_ANOTHER: &[Row] = &[
-    COMES,
+    Row::Calls(
+        Step::Motion {
+            time: 20,
+            x: 5,
+            y: 5,
+        },
+        Done::Motion,
+    ),
+    Row::Told(&[ENTERED]),
     Row::Takes,
-    Row::Calls(PRESS, Done::Button),
-    Row::Told(&[PRESSED]),
+    Row::Calls(
+        Step::Button {
+            time: 21,
+            button: 272,
+            pressed: true,
+        },
+        Done::Button,
+    ),
+    Row::Told(&[Message(
+        13,
+        3,
+        &[Arg::Uint(3), Arg::Uint(21), Arg::Uint(272), Arg::Uint(1)],
+    )]),
     Row::Waits(2, Some(&[])),
     Row::Shows(
         64,

@@ -47,7 +47,7 @@ const BUFFER_20: Message = Message(
 );
 
 /// wl_surface.commit of the subsurface's surface 14.
-const COMMIT_14: Message = Message(14, 6, &[]);
+pub(crate) const COMMIT_14: Message = Message(14, 6, &[]);
 
 /// wl_surface.attach of the surface 14: the black buffer 18, the buffer 19 whose first pixel is red, or the buffer 20 whose first pixel is
 /// red and whose last is green.
@@ -63,7 +63,7 @@ const FIRST_PIXEL: Message = Message(14, 2, &[Arg::Int(0), Arg::Int(0), Arg::Int
 const LAST_PIXEL: Message = Message(14, 2, &[Arg::Int(3), Arg::Int(3), Arg::Int(1), Arg::Int(1)]);
 
 /// The subsurface 16 of the toplevel stands at (4, 4). Its buffers lie in the store 2.
-const SUBSURFACE: &[Row] = &[
+pub(crate) const SUBSURFACE: &[Row] = &[
     Row::Binds(2, b"wl_subcompositor", 1, 15, Fed::Alive),
     Row::Sends(Message(3, 0, &[Arg::NewId(14)])),
     Row::Sends(Message(15, 1, &[Arg::NewId(16), Arg::Object(14), Arg::Object(6)])),
@@ -88,7 +88,7 @@ const ALL_BLACK: &[Pixel] = &[
 
 /// It is mapped with the black buffer 18, by a commit of its own and then one of its parent (wayland.xml, wl_subcompositor.get_subsurface).
 /// All of the window is painted, each point once.
-const SHOWN: &[Row] = &[
+pub(crate) const SHOWN: &[Row] = &[
     Row::Sends(ATTACH_18),
     Row::Sends(COMMIT_14),
     Row::Sends(COMMIT),
@@ -157,7 +157,7 @@ const SET_DESYNC: &[Row] = &[
 ];
 
 /// Placed below its parent it is hidden by it once the parent commits (wayland.xml, wl_subsurface.place_below).
-const PLACE_BELOW: &[Row] = &[
+pub(crate) const PLACE_BELOW: &[Row] = &[
     Row::Sends(Message(16, 3, &[Arg::Object(6)])),
     Row::Sends(COMMIT),
     Row::Shows(16, 1600, ALL_BLACK),
@@ -174,6 +174,28 @@ const DESTROY: &[Row] = &[
     Row::Sends(Message(14, 1, &[Arg::Object(0), Arg::Int(0), Arg::Int(0)])),
     Row::Sends(COMMIT_14),
     Row::Told(&[Message(20, 0, &[])]),
+];
+
+/// Placed below and above its parent again, and synchronised as it is, it changes nothing. A frame of its parent is answered at the tick
+/// (wayland.xml, wl_surface.frame). Its wl_subsurface goes, and then its surface, whose buffer is released (wl_buffer.release).
+const PLACED_ABOVE_AGAIN: &[Row] = &[
+    Row::Sends(Message(16, 3, &[Arg::Object(6)])),
+    Row::Sends(Message(16, 2, &[Arg::Object(6)])),
+    Row::Sends(Message(16, 4, &[])),
+    Row::Sends(Message(6, 3, &[Arg::NewId(21)])),
+    Row::Sends(COMMIT),
+    Row::Waits(1, Some(&[])),
+    Row::Ticks(9, 0),
+    Row::Told(&[
+        Message(21, 0, &[Arg::Uint(9)]),
+        Message(1, 1, &[Arg::Uint(21)]),
+    ]),
+    Row::Takes,
+    Row::Sends(Message(16, 0, &[])),
+    Row::Told(&[Message(1, 1, &[Arg::Uint(16)])]),
+    Row::Takes,
+    Row::Sends(Message(14, 0, &[])),
+    Row::Told(&[Message(1, 1, &[Arg::Uint(14)]), Message(20, 0, &[])]),
 ];
 
 /// The damage of commits that are held adds up (wayland.xml, wl_surface.damage): 1,024 rectangles in all count one by one.
@@ -213,6 +235,10 @@ const CASES: &[Case] = &[
     (
         "its wl_subsurface goes",
         &[SUBSURFACE, SHOWN, HELD, DESTROY],
+    ),
+    (
+        "it is placed above again, and goes",
+        &[SUBSURFACE, SHOWN, HELD, PLACED_ABOVE_AGAIN],
     ),
     (
         "1,024 held rectangles",

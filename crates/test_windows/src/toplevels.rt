@@ -42,6 +42,13 @@ const CONFIGURE_65: &[Row] = &[
     Row::ErrorTold(1, 3, b"implementation"),
 ];
 
+/// A mapped toplevel is configured by each request to be maximized, with the serials 2 to 65; the next is past the limit.
+const MAXIMIZED_65: &[Row] = &[
+    Row::Maximizes(2, 66),
+    Row::Errs(Message(8, 9, &[]), 1, 3),
+    Row::ErrorTold(1, 3, b"implementation"),
+];
+
 /// A client has at most 256 surfaces.
 const SURFACE_257: &[Row] = &[
     Row::MakesSurfaces(10, 266),
@@ -128,6 +135,7 @@ const STORE_GOES_WITH_ITS_SURFACE: &[Row] = &[
 ];
 
 const MAPPED_CASES: &[Case] = &[
+    ("at most 64 configures of a window wait", &[MAXIMIZED_65]),
     ("another state is answered with a configure", &[MAXIMIZES]),
     (
         "a store stays while its buffer is shown",

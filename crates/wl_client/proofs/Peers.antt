@@ -8,8 +8,8 @@ use Rattle.std.proofs.Math.Path.{fun_ext}
 use Rattle.std.proofs.lemmas.Bool.{eqb-true}
 use Rattle.std.proofs.lemmas.Bool.Decides.{nat_tests}
 use Rattle.wl_proto.specs.declared.interface.Interface.{Interface}
-use Rattle.wl_proto.specs.declared.interface.Interface.TheVariants.{WlDisplay, WlRegistry, WlCallback, WlCompositor, WlRegion, WlSurface, WlShm, WlShmPool, WlBuffer, WlSubcompositor, WlSubsurface}
-use Rattle.wl_proto.specs.declared.interface.Interface.TheVariants.{WlOutput, WlSeat, WlPointer, XdgWmBase, XdgPositioner, XdgSurface, XdgToplevel, XdgPopup}
+use Rattle.wl_proto.specs.declared.interface.Interface.TheVariants.{WlDisplay, WlShm}
+use Rattle.wl_proto.specs.declared.interface.Interface.TheVariants.{WlOutput, WlSeat}
 use Rattle.wl_table.specs.declared.entry.Entry.{Entry}
 use Rattle.wl_table.specs.Objects.{Held, HoldsAt, entry_of}
 use Rattle.std.specs.BTreeMap.{BTreeMap, UpdatesBy}
@@ -427,22 +427,7 @@ pub bind_told-nothing : (output : Output) (id : ℕ) (interface : Interface) →
 bind_told-nothing output id WlShm a b c = absurd (a refl)
 bind_told-nothing output id WlSeat a b c = absurd (b refl)
 bind_told-nothing output id WlOutput a b c = absurd (c refl)
-bind_told-nothing output id WlDisplay a b c = refl
-bind_told-nothing output id WlRegistry a b c = refl
-bind_told-nothing output id WlCallback a b c = refl
-bind_told-nothing output id WlCompositor a b c = refl
-bind_told-nothing output id WlRegion a b c = refl
-bind_told-nothing output id WlSurface a b c = refl
-bind_told-nothing output id WlShmPool a b c = refl
-bind_told-nothing output id WlBuffer a b c = refl
-bind_told-nothing output id WlSubcompositor a b c = refl
-bind_told-nothing output id WlSubsurface a b c = refl
-bind_told-nothing output id WlPointer a b c = refl
-bind_told-nothing output id XdgWmBase a b c = refl
-bind_told-nothing output id XdgPositioner a b c = refl
-bind_told-nothing output id XdgSurface a b c = refl
-bind_told-nothing output id XdgToplevel a b c = refl
-bind_told-nothing output id XdgPopup a b c = refl
+bind_told-nothing output id interface a b c = refl
 
 -- what tests as absent is
 pub absent : (o : Option Cause) → false ≡ is_some o → o ≡ None

@@ -233,15 +233,7 @@ of-wl_compositor (wl_compositor_requests.CreateRegion id) = refl
 
 of-wl_surface : (request : WlSurfaceRequest) → (wl_surface_request request).interface ≡ WlSurface
 of-wl_surface wl_surface_requests.Destroy = refl
-of-wl_surface (wl_surface_requests.Attach buffer x y) = refl
-of-wl_surface (wl_surface_requests.Damage x y width height) = refl
-of-wl_surface (wl_surface_requests.Frame callback) = refl
-of-wl_surface (wl_surface_requests.SetOpaqueRegion region) = refl
-of-wl_surface (wl_surface_requests.SetInputRegion region) = refl
-of-wl_surface wl_surface_requests.Commit = refl
-of-wl_surface (wl_surface_requests.SetBufferTransform transform) = refl
-of-wl_surface (wl_surface_requests.SetBufferScale scale) = refl
-of-wl_surface (wl_surface_requests.DamageBuffer x y width height) = refl
+of-wl_surface request = refl
 
 of-wl_subcompositor : (request : WlSubcompositorRequest) → (wl_subcompositor_request request).interface ≡ WlSubcompositor
 of-wl_subcompositor wl_subcompositor_requests.Destroy = refl
@@ -249,53 +241,30 @@ of-wl_subcompositor (wl_subcompositor_requests.GetSubsurface id surface parent) 
 
 of-wl_subsurface : (request : WlSubsurfaceRequest) → (wl_subsurface_request request).interface ≡ WlSubsurface
 of-wl_subsurface wl_subsurface_requests.Destroy = refl
-of-wl_subsurface (wl_subsurface_requests.SetPosition x y) = refl
-of-wl_subsurface (wl_subsurface_requests.PlaceAbove sibling) = refl
-of-wl_subsurface (wl_subsurface_requests.PlaceBelow sibling) = refl
-of-wl_subsurface wl_subsurface_requests.SetSync = refl
-of-wl_subsurface wl_subsurface_requests.SetDesync = refl
+of-wl_subsurface request = refl
 
 of-wl_seat : (request : WlSeatRequest) → (wl_seat_request request).interface ≡ WlSeat
 of-wl_seat (wl_seat_requests.GetPointer id) = refl
-of-wl_seat (wl_seat_requests.GetKeyboard id) = refl
-of-wl_seat (wl_seat_requests.GetTouch id) = refl
+of-wl_seat request = refl
 
 of-wl_pointer : (request : WlPointerRequest) → (wl_pointer_request request).interface ≡ WlPointer
 of-wl_pointer (wl_pointer_requests.SetCursor serial surface hotspot_x hotspot_y) = refl
 
 of-xdg_wm_base : (request : XdgWmBaseRequest) → (xdg_wm_base_request request).interface ≡ XdgWmBase
 of-xdg_wm_base xdg_wm_base_requests.Destroy = refl
-of-xdg_wm_base (xdg_wm_base_requests.CreatePositioner id) = refl
-of-xdg_wm_base (xdg_wm_base_requests.GetXdgSurface id surface) = refl
-of-xdg_wm_base (xdg_wm_base_requests.Pong serial) = refl
+of-xdg_wm_base request = refl
 
 of-xdg_surface : (request : XdgSurfaceRequest) → (xdg_surface_request request).interface ≡ XdgSurface
 of-xdg_surface xdg_surface_requests.Destroy = refl
-of-xdg_surface (xdg_surface_requests.GetToplevel id) = refl
-of-xdg_surface (xdg_surface_requests.GetPopup id parent positioner) = refl
-of-xdg_surface (xdg_surface_requests.SetWindowGeometry x y width height) = refl
-of-xdg_surface (xdg_surface_requests.AckConfigure serial) = refl
+of-xdg_surface request = refl
 
 of-xdg_toplevel : (request : XdgToplevelRequest) → (xdg_toplevel_request request).interface ≡ XdgToplevel
 of-xdg_toplevel xdg_toplevel_requests.Destroy = refl
-of-xdg_toplevel (xdg_toplevel_requests.SetParent parent) = refl
-of-xdg_toplevel (xdg_toplevel_requests.SetTitle title) = refl
-of-xdg_toplevel (xdg_toplevel_requests.SetAppId app_id) = refl
-of-xdg_toplevel (xdg_toplevel_requests.ShowWindowMenu seat serial x y) = refl
-of-xdg_toplevel (xdg_toplevel_requests.Move seat serial) = refl
-of-xdg_toplevel (xdg_toplevel_requests.Resize seat serial edges) = refl
-of-xdg_toplevel (xdg_toplevel_requests.SetMaxSize width height) = refl
-of-xdg_toplevel (xdg_toplevel_requests.SetMinSize width height) = refl
-of-xdg_toplevel xdg_toplevel_requests.SetMaximized = refl
-of-xdg_toplevel xdg_toplevel_requests.UnsetMaximized = refl
-of-xdg_toplevel (xdg_toplevel_requests.SetFullscreen output) = refl
-of-xdg_toplevel xdg_toplevel_requests.UnsetFullscreen = refl
-of-xdg_toplevel xdg_toplevel_requests.SetMinimized = refl
+of-xdg_toplevel request = refl
 
 of-xdg_popup : (request : XdgPopupRequest) → (xdg_popup_request request).interface ≡ XdgPopup
 of-xdg_popup xdg_popup_requests.Destroy = refl
-of-xdg_popup (xdg_popup_requests.Grab seat serial) = refl
-of-xdg_popup (xdg_popup_requests.Reposition positioner token) = refl
+of-xdg_popup request = refl
 
 -- an accepted request of one of a client's own interfaces
 pub keeps-surfaces : (old new : Held) (known : Known) (object version target : ℕ) (action : Action) (request : Request)

@@ -11,8 +11,7 @@ use Rattle.wl_table.specs.Objects.{Held}
 use Rattle.wl_surface.specs.Slots.{IsAny, Numbered, Slots, StandForAll, has_at}
 use Rattle.wl_surface.specs.Surface.{Surface}
 use Rattle.spec_desktop.specs.declared.actions.Action.{Action}
-use Rattle.spec_desktop.specs.declared.actions.Action.TheVariants.{Sync, GetRegistry, Bind, CreateRegion, AddToRegion, SubtractFromRegion, DestroyRegion, CreatePool, CreateBuffer, ResizePool, DestroyPool}
-use Rattle.spec_desktop.specs.declared.actions.Action.TheVariants.{DestroyBuffer, CreatePositioner, SetPositioner, DestroyPositioner}
+use Rattle.spec_desktop.specs.declared.actions.Action.TheVariants.{DestroyBuffer}
 use Rattle.spec_desktop.specs.declared.cause.Cause.TheVariants.{Protocol}
 use Rattle.spec_desktop.specs.declared.refusals.ErrorCode.TheVariants.{InvalidMethod}
 use Rattle.spec_desktop.specs.declared.refusals.Refusal.{Refusal}
@@ -54,21 +53,8 @@ ActsWith-unused used id store p q is acts = subst (λ (b : Bool). Queues (id_del
 
 -- what else is asked is done as without surfaces
 pub ActsWith-other : (used : ℕ → Bool) (action : Action) (p q : Peer) → ((id store : ℕ) → action ≢ DestroyBuffer id store) → Acts action p q → ActsWith used action p q
-ActsWith-other used (Sync callback) p q other acts = acts
-ActsWith-other used (GetRegistry registry) p q other acts = acts
-ActsWith-other used (Bind id interface version) p q other acts = acts
-ActsWith-other used (CreateRegion id version) p q other acts = acts
-ActsWith-other used (AddToRegion id rect) p q other acts = acts
-ActsWith-other used (SubtractFromRegion id rect) p q other acts = acts
-ActsWith-other used (DestroyRegion id) p q other acts = acts
-ActsWith-other used (CreatePool id version size) p q other acts = acts
-ActsWith-other used (CreateBuffer id version laid) p q other acts = acts
-ActsWith-other used (ResizePool store size) p q other acts = acts
-ActsWith-other used (DestroyPool id store) p q other acts = acts
-ActsWith-other used (CreatePositioner id version) p q other acts = acts
-ActsWith-other used (SetPositioner id setting) p q other acts = acts
-ActsWith-other used (DestroyPositioner id) p q other acts = acts
 ActsWith-other used (DestroyBuffer id store) p q other acts = absurd (other id store refl)
+ActsWith-other used action p q other acts = acts
 
 -- ---- the first message is taken
 

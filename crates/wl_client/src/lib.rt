@@ -4,6 +4,7 @@
 mod backlog;
 mod checks;
 mod clients;
+mod config;
 mod events;
 mod first_message;
 mod globals;
@@ -22,6 +23,7 @@ mod wl_shm_pool;
 mod xdg_positioner;
 
 pub use clients::Client;
+pub use config::Config;
 pub use events::release_event;
 pub use first_message::First;
 pub use outputs::Output;

@@ -13,7 +13,6 @@ use Rattle.spec_desktop.specs.declared.answers.Stored.TheVariants as stored
 use Rattle.spec_desktop.specs.Act.{Act, Connect, Feed, Store, Leave, Tick, Send, Close, Motion, Button, IsClosed, IsLeft, IsSent, IsStored, closed_by, lowest}
 use Rattle.spec_desktop.specs.Desktop.{Desktop, Resident, become, become_by, client_at, resident_of, toplevels_of, with_client, with_number}
 use Rattle.spec_desktop.specs.Happens.{Happens}
-use Rattle.spec_desktop.specs.LeftOut.{nothing_left_out}
 use Rattle.spec_desktop.specs.Settling.{becomes}
 use Rattle.spec_desktop.specs.Step.{with_peer}
 use Rattle.law_desktop.proofs.Runs.Forms.{ChangesAt as StepChangesAt, ConnectsAt, LeavesAt}
@@ -159,14 +158,11 @@ leaves-whole c (Some r) d new done still is owns h = left-so r.peer.status c r d
 -- ---- a call
 
 -- It happens to a desktop on which what each client owns is in order.
-pub alters-whole : (act : Act) (d e : Desktop) (done : Done) → Ordered d → Alters act done d e → Happens nothing_left_out act done d e
+pub alters-whole : (act : Act) (d e : Desktop) (done : Done) → Ordered d → Alters act done d e → Happens act done d e
 alters-whole Connect d e done ordered h = h
-alters-whole (Feed c piece) d e done ordered h = absurd h
 alters-whole (Store c store at bytes) d e done ordered h =
     changes-whole (IsStored store at bytes) (stored-leaves store at bytes) _ done c (client_at c d) d e (ordered.in_order.each c) h
 alters-whole (Leave c) d e done ordered h = leaves-whole c (client_at c d) d e done ordered.in_order.pointer refl (ordered.in_order.each c) h
-alters-whole (Tick time) d e done ordered h = absurd h
 alters-whole (Send c n) d e done ordered h = changes-whole (IsSent n) (sent-leaves n) _ done c (client_at c d) d e (ordered.in_order.each c) h
 alters-whole (Close c) d e done ordered h = changes-whole IsClosed closed-leaves _ done c (client_at c d) d e (ordered.in_order.each c) h
-alters-whole (Motion time x y) d e done ordered h = absurd h
-alters-whole (Button time button pressed) d e done ordered h = absurd h
+alters-whole act d e done ordered h = absurd h

@@ -11,7 +11,6 @@ use Rattle.spec_desktop.specs.declared.refusals.Refusal.{Refusal}
 use Rattle.spec_desktop.specs.Demand.{Demand}
 use Rattle.spec_desktop.specs.Demanding.{judge_all}
 use Rattle.spec_desktop.specs.Desktop.{Desktop, Resident, status_in, status_of}
-use Rattle.spec_desktop.specs.LeftOut.{nothing_left_out}
 use Rattle.law_desktop.specs.Pointed.Pointed.{asked, asked_by, asked_first, asked_of}
 use Rattle.wl_requests.specs.declared.pointer_asked.PointerAsked.{PointerAsked}
 use Rattle.wl_requests.specs.declared.residents.Resident.{Resident as Kept}
@@ -35,8 +34,8 @@ judged-asks : (numbers : ById ℕ) (j : Result Demand Refusal) (p : PointerAsked
 judged-asks numbers (Ok demand) p h = h
 judged-asks numbers (Err refusal) p h = tt
 
-first-asks : (numbers : ById ℕ) (s : Split) (r : Resident) (p : PointerAsked) → AsksPointerFirst numbers s r p → AsksOfPointer numbers (asked_first nothing_left_out s r) p
-first-asks numbers (Whole object opcode size) r p h = judged-asks numbers (judge_all nothing_left_out r object opcode (take (size - 8) (drop 8 r.peer.rest))) p h
+first-asks : (numbers : ById ℕ) (s : Split) (r : Resident) (p : PointerAsked) → AsksPointerFirst numbers s r p → AsksOfPointer numbers (asked_first s r) p
+first-asks numbers (Whole object opcode size) r p h = judged-asks numbers (judge_all r object opcode (take (size - 8) (drop 8 r.peer.rest))) p h
 first-asks numbers Bad r p h = tt
 first-asks numbers More r p h = tt
 
@@ -46,11 +45,11 @@ module _ {A : Type 0} (output : Output) (rs : List (Option (Kept A))) (pile : Pi
   pub numbers-here : numbers_in (client_views rs) c ≡ numbers_of (Some v.client)
   numbers-here = ap (numbers_in (client_views rs)) is.number ∙ ap numbers_of (client-here rs k v is.here)
 
-  pub message-asks : v.client.ended ≡ None → (p : PointerAsked) → MessageAsksPointer v p → AsksOfPointer (numbers_in (client_views rs) c) (asked nothing_left_out c d) p
+  pub message-asks : v.client.ended ≡ None → (p : PointerAsked) → MessageAsksPointer v p → AsksOfPointer (numbers_in (client_views rs) c) (asked c d) p
   message-asks lives p asks =
       let s = out output rs pile c k v is d a in
       let seat = s.2.seat in
-      subst (λ (numbers : ById ℕ). AsksOfPointer numbers (asked nothing_left_out c d) p) (sym numbers-here)
-      (subst (λ (o : Option Resident). AsksOfPointer (numbers_of (Some v.client)) (asked_by nothing_left_out o) p) (sym s.1)
+      subst (λ (numbers : ById ℕ). AsksOfPointer numbers (asked c d) p) (sym numbers-here)
+      (subst (λ (o : Option Resident). AsksOfPointer (numbers_of (Some v.client)) (asked_by o) p) (sym s.1)
       (first-asks (numbers_of (Some v.client)) (split_of s.0.peer.rest) s.0 p
       (asks s.0 (record { lives = lives; peer = seat.peer; owns = seat.owns; frames = seat.frames; subsurfaces = seat.subsurfaces }))))

@@ -17,7 +17,6 @@ use Rattle.spec_desktop.specs.Changing.{without_callbacks}
 use Rattle.spec_desktop.specs.Desktop.{Desktop, Resident, arrival, client_at, owned_in, owned_of, resident_of, with_client}
 use Rattle.spec_desktop.specs.Happenings.{Leads, Single, StarvesAt}
 use Rattle.spec_desktop.specs.Happens.{ChangesThen, ConnectsThen, LeavesThen, TellsFrames, callbacks_due, frames_told}
-use Rattle.spec_desktop.specs.LeftOut.{LeftOut}
 use Rattle.spec_desktop.specs.Step.{with_peer}
 use Rattle.law_desktop.specs.Focus.{EndedAreBare}
 use Rattle.spec_desktop.specs.Marks.{AreDistinct, at_least, in_output}
@@ -312,15 +311,9 @@ ordered-bare d ordered c r there over = at r.peer.status refl over
 
 -- its own change shows no window that wasn't there
 abbrev pub is_losing_act : Act → Bool
-is_losing_act Connect = true
-is_losing_act (Feed client piece) = true
-is_losing_act (Store client store at bytes) = true
-is_losing_act (Leave client) = true
-is_losing_act (Tick time) = true
-is_losing_act (Send client count) = true
-is_losing_act (Close client) = true
 is_losing_act (Motion time x y) = false
 is_losing_act (Button time button pressed) = false
+is_losing_act act = true
 
 connects-along : (k : Option ℕ) (d : Desktop) (done : Done) (path : List Desktop) (new : Desktop) → lowest d.clients ≡ k → ConnectsThen k d done (ending_through path new) → LosesAlong d path new
 connects-along None d done path new first h = ending-along d (unstruck d) path new (loses-none d d (shows-itself d d refl) refl) h.1
@@ -361,27 +354,27 @@ frames-lose time (suc n) c old new h =
     (tells-still (λ r. without_callbacks (callbacks_due r) r) (frames_told time) c old h.0 h.1))
     (frames-lose time n (suc c) h.0 new h.2)
 
-pub leads-along : (left : LeftOut) (act : Act) (done : Done) (d : Desktop) (path : List Desktop) (new : Desktop) → is_losing_act act ≡ true → EndedAreBare d → Leads left (Single act done) d path new
+pub leads-along : (act : Act) (done : Done) (d : Desktop) (path : List Desktop) (new : Desktop) → is_losing_act act ≡ true → EndedAreBare d → Leads (Single act done) d path new
     → LosesAlong d path new
-leads-along left Connect done d path new is none h = connects-along (lowest d.clients) d done path new refl h
-leads-along left (Feed c piece) done d path new is none h = absurd h
-leads-along left (Store c store at bytes) done d path new is none h =
+leads-along Connect done d path new is none h = connects-along (lowest d.clients) d done path new refl h
+leads-along (Feed c piece) done d path new is none h = absurd h
+leads-along (Store c store at bytes) done d path new is none h =
     changes-along (IsStored store at bytes) _ c (client_at c d) d done path new refl (λ r q there stored gone. never-none q _ stored.0 gone) h
-leads-along left (Leave c) done d path new is none h = leaves-along c (client_at c d) d done path new h
-leads-along left (Tick time) done d path new is none h = settling-along d h.1.0 path new (frames-lose time 32 1 (unstruck d) h.1.0 h.1.1) h.1.2
-leads-along left (Send c n) done d path new is none h =
+leads-along (Leave c) done d path new is none h = leaves-along c (client_at c d) d done path new h
+leads-along (Tick time) done d path new is none h = settling-along d h.1.0 path new (frames-lose time 32 1 (unstruck d) h.1.0 h.1.1) h.1.2
+leads-along (Send c n) done d path new is none h =
     changes-along (IsSent n) _ c (client_at c d) d done path new refl (λ r q there sent gone. never-none q _ sent.0 gone) h
-leads-along left (Close c) done d path new is none h =
+leads-along (Close c) done d path new is none h =
     changes-along IsClosed _ c (client_at c d) d done path new refl (λ r q there closed gone. none c r there (closed-none r.peer.status r.peer (sym closed.0 ∙ gone))) h
-leads-along left (Motion time x y) done d path new is none h = absurd (differ is)
-leads-along left (Button time button pressed) done d path new is none h = absurd (differ is)
+leads-along (Motion time x y) done d path new is none h = absurd (differ is)
+leads-along (Button time button pressed) done d path new is none h = absurd (differ is)
 
 -- what isn't marked from the first desktop to the last isn't marked by any end in turn
-pub unmarked-each : (left : LeftOut) (act : Act) (done : Done) (d : Desktop) (path : List Desktop) (new : Desktop) (x y : ℤ) → is_losing_act act ≡ true → EndedAreBare d → AreDistinct (all_windows d)
-    → Leads left (Single act done) d path new → marks_at_least d new x y ≡ false → marks_at_least_through all_windows d path x y ≡ false
-unmarked-each left act done d path new x y is none apart leads unmarked =
+pub unmarked-each : (act : Act) (done : Done) (d : Desktop) (path : List Desktop) (new : Desktop) (x y : ℤ) → is_losing_act act ≡ true → EndedAreBare d → AreDistinct (all_windows d)
+    → Leads (Single act done) d path new → marks_at_least d new x y ≡ false → marks_at_least_through all_windows d path x y ≡ false
+unmarked-each act done d path new x y is none apart leads unmarked =
     false_from_ne_true (marks_at_least_through all_windows d path x y)
-    (λ marked. differ (sym unmarked ∙ marked-each d x y apart path new (leads-along left act done d path new is none leads) marked))
+    (λ marked. differ (sym unmarked ∙ marked-each d x y apart path new (leads-along act done d path new is none leads) marked))
 
 -- the same where memory runs out before the next message
 pub unmarked-starving : (c : ℕ) (o : Option Resident) (d : Desktop) (path : List Desktop) (new : Desktop) (x y : ℤ) → AreDistinct (all_windows d) → StarvesAt c o d path new

@@ -15,23 +15,11 @@ use Rattle.wl_clients.specs.declared.grabs.Latest.{Latest}
 
 allowed-for : (g : Grabbing) (k : Kind) (c : ℕ) (r : Resident) (d : Desktop) → (is_grab_of k ≡ true → IsGrabbing g c r d) → IsGrabbingFor g k c r d
 allowed-for g (kind.Popup (popup.Grab seat serial)) c r d h = h refl
-allowed-for g (kind.Popup popup.Destroy) c r d h = tt
-allowed-for g (kind.Popup (popup.Reposition positioner token)) c r d h = tt
-allowed-for g (kind.Compositor request) c r d h = tt
-allowed-for g (kind.Subcompositor request) c r d h = tt
-allowed-for g (kind.Subsurface request) c r d h = tt
-allowed-for g (kind.Surface request) c r d h = tt
-allowed-for g (kind.Seat request) c r d h = tt
-allowed-for g (kind.Pointer request) c r d h = tt
-allowed-for g (kind.Base request) c r d h = tt
-allowed-for g (kind.XdgSurface request) c r d h = tt
-allowed-for g (kind.Toplevel request) c r d h = tt
+allowed-for g k c r d h = tt
 
 allowed-of : (g : Grabbing) (a : Asked) (c : ℕ) (r : Resident) (d : Desktop) → (is_grab a ≡ true → IsGrabbing g c r d) → IsGrabbingOf g a c r d
 allowed-of g (asked.Request object version size target k) c r d h = allowed-for g k c r d h
-allowed-of g asked.More c r d h = tt
-allowed-of g (asked.Refused refusal) c r d h = tt
-allowed-of g (asked.Own size judged) c r d h = tt
+allowed-of g a c r d h = tt
 
 -- by the serials that the client was told, and by who holds a grab where one is asked for
 pub grabbing-of : (latest : Latest) (held : Bool) (a : Asked) (c : ℕ) (r : Resident) (d : Desktop) → IsLatest latest (Some r)

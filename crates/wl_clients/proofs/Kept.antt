@@ -17,7 +17,6 @@ use Rattle.spec_desktop.specs.Windows.{Window}
 use Rattle.wl_scene.specs.StackedAgreement.{AreStacked}
 use Rattle.spec_desktop.specs.Act.{fed_of, peer_at, status_of}
 use Rattle.spec_desktop.specs.Desktop.{Desktop, Resident, become, client_at, with_client, with_number}
-use Rattle.spec_desktop.specs.LeftOut.{nothing_left_out}
 use Rattle.spec_desktop.specs.Stacked.{all_windows}
 use Rattle.spec_desktop.specs.Step.{with_peer}
 use Rattle.spec_desktop.specs.Through.{ServesThrough}
@@ -128,9 +127,9 @@ module _ {A : Type 0} (output : Output) (rs : List (Option (Kept A))) (pile : Pi
   -- it leads through desktops along which what is marked is what may be marked
   pub serves-through : (new : Kept A) (now : Pile) (before after : Damaged) → Ordered d
       → ((r : Resident) → before.width ≡ d.output.width → before.height ≡ d.output.height → IsSeated c (numbers_in us) d v pile d r → Ordered d
-      → (e : Desktop) × (q : Resident) × (path : List Desktop) × ServesThrough nothing_left_out c d path e × IsSeated c (numbers_in us) d new now e q × MarksThrough d path before after)
+      → (e : Desktop) × (q : Resident) × (path : List Desktop) × ServesThrough c d path e × IsSeated c (numbers_in us) d new now e q × MarksThrough d path before after)
       → (before.width ≡ output.width) × (before.height ≡ output.height)
-      → (e : Desktop) × (path : List Desktop) × ServesThrough nothing_left_out c d path e × Matches (put-back new now) e × MarksThrough d path before after
+      → (e : Desktop) × (path : List Desktop) × ServesThrough c d path e × Matches (put-back new now) e × MarksThrough d path before after
   serves-through new now before after ordered through sides =
       let n = through here.0 (sides.0 ∙ ap (λ (o : Shown). o.width) a.output) (sides.1 ∙ ap (λ (o : Shown). o.height) a.output) here.2 ordered in
       (n.0, n.2, n.3, put new now n.0 n.1 n.4, n.5)

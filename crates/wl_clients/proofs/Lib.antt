@@ -34,3 +34,4 @@ pub mod Strikes
 pub mod Telling
 pub mod Told
 pub mod Untouched
+pub mod Viewed

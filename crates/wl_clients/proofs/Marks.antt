@@ -10,7 +10,6 @@ use Rattle.spec_desktop.specs.declared.answers.Done.{Done}
 use Rattle.spec_desktop.specs.Act.{Act, Leave}
 use Rattle.spec_desktop.specs.Desktop.{Desktop, Resident, client_at, status_of}
 use Rattle.spec_desktop.specs.Happens.{Happens}
-use Rattle.spec_desktop.specs.LeftOut.{nothing_left_out}
 use Rattle.spec_desktop.specs.Moments.{marks_at_least, marks_at_most}
 use Rattle.law_desktop.specs.Shown.{ShownStand}
 use Rattle.law_desktop.specs.Touching.{has_window_at}
@@ -44,8 +43,8 @@ or-none false = refl
 pub still-marks : (v : DeskView) (d e : Desktop) (damage : Damaged) → Agrees v d → IsStill d e → MarksAtLeast d e damage damage
 still-marks v d e damage a still = λ x y wide high clean. (clean, still-unmarked d e a.ordered still (pos x) (pos y))
 
-pub steps-still : (v : DeskView) (before after : Damaged) → after ≡ before → (act : Act) (done : Done) → ((d e : Desktop) → Ordered d → Happens nothing_left_out act done d e → IsStill d e)
-    → (d e : Desktop) → Agrees v d → Happens nothing_left_out act done d e → MarksAtLeast d e before after
+pub steps-still : (v : DeskView) (before after : Damaged) → after ≡ before → (act : Act) (done : Done) → ((d e : Desktop) → Ordered d → Happens act done d e → IsStill d e)
+    → (d e : Desktop) → Agrees v d → Happens act done d e → MarksAtLeast d e before after
 steps-still v before after same act done still d e a step =
     subst (λ (damage : Damaged). MarksAtLeast d e before damage) (sym same) (still-marks v d e before a (still d e a.ordered step))
 
@@ -81,9 +80,9 @@ away-adds c d old new ordered away same x y wide high =
 
 -- a client leaves
 pub leaves-marked : (c : ℕ) (done : Done) (v : DeskView) (before after : Damaged) → ((d : Desktop) → Agrees v d → AddsOwn c d before after)
-    → (d e : Desktop) → Agrees v d → Happens nothing_left_out (Leave c) done d e → MarksAtLeast d e before after
+    → (d e : Desktop) → Agrees v d → Happens (Leave c) done d e → MarksAtLeast d e before after
 leaves-marked c done v before after adds d e a step =
-    gone-marks c d e before after a.ordered a.matches.mapped (left_is_gone nothing_left_out c done d e a.ordered.in_order step) (adds d a)
+    gone-marks c d e before after a.ordered a.matches.mapped (left_is_gone c done d e a.ordered.in_order step) (adds d a)
 
 -- one ends
 pub ends-marked : (c : ℕ) (cause : Cause) (v : DeskView) (before after : Damaged) → ((d : Desktop) → Agrees v d → AddsOwn c d before after)

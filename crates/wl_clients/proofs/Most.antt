@@ -9,7 +9,6 @@ use Rattle.spec_desktop.specs.Told.{Output}
 use Rattle.spec_desktop.specs.declared.cause.Cause.TheVariants.{Memory}
 use Rattle.spec_desktop.specs.Desktop.{Desktop, Resident, client_at}
 use Rattle.spec_desktop.specs.Happenings.{Happening, Leads, Message, Receive, ReceivesAt, Single, Starve, StarvesAt}
-use Rattle.spec_desktop.specs.LeftOut.{LeftOut}
 use Rattle.spec_desktop.specs.Marks.{AreDistinct, has_changed_tree, has_same_record, in_output, is_allowed_at, is_raised, same_records}
 use Rattle.spec_desktop.specs.Moments.{marks_at_least, marks_at_least_of, marks_at_least_through, marks_at_most, marks_at_most_of, marks_at_most_through}
 use Rattle.spec_desktop.specs.Settling.{Midstep, becomes, unstruck}
@@ -26,23 +25,23 @@ use Rattle.law_desktop.proofs.Lists.Tests.{any-more}
 -- ---- the desktops of a happening
 
 -- its own change leads to one desktop, and ends and settlings on from there
-leads-follow : (left : LeftOut) (h : Happening) (d : Desktop) (path : List Desktop) (new : Desktop) → Leads left h d path new → Follow path new
-leads-follow left (Receive c piece) d path new h = at (client_at c d) h
+leads-follow : (h : Happening) (d : Desktop) (path : List Desktop) (new : Desktop) → Leads h d path new → Follow path new
+leads-follow (Receive c piece) d path new h = at (client_at c d) h
   where
     at : (o : Option Resident) → ReceivesAt c piece o d path new → Follow path new
     at None h = absurd h
     at (Some r) h = (new, [], h.2, refl)
-leads-follow left (Message c) d path new h =
+leads-follow (Message c) d path new h =
     (served (settling_through path new) (settling_through path new) (λ (p : Follow path new). λ (mid : Midstep). Unit {0}) (λ (p : Follow path new). λ (mid : Midstep). Unit {0})
-    (λ mid k. (settling-follows path new mid k, tt)) (λ mid k. (settling-follows path new mid k, tt)) left c (client_at c d) d h).0
-leads-follow left (Starve c) d path new h = at (client_at c d) h
+    (λ mid k. (settling-follows path new mid k, tt)) (λ mid k. (settling-follows path new mid k, tt)) c (client_at c d) d h).0
+leads-follow (Starve c) d path new h = at (client_at c d) h
   where
     at : (o : Option Resident) → StarvesAt c o d path new → Follow path new
     at None h = absurd h
     at (Some r) h = settling-follows path new (unstruck (becomes c r (ended Memory r.peer) d)) h.1
-leads-follow left (Single act done) d path new h =
+leads-follow (Single act done) d path new h =
     (happened (settling_through path new) (ending_through path new) (λ (p : Follow path new). λ (mid : Midstep). Unit {0}) (λ (p : Follow path new). λ (mid : Midstep). Unit {0})
-    (λ mid k. (settling-follows path new mid k, tt)) (λ mid k. (ending-follows path new mid k, tt)) left act done d h).0
+    (λ mid k. (settling-follows path new mid k, tt)) (λ mid k. (ending-follows path new mid k, tt)) act done d h).0
 
 -- ---- records
 
@@ -249,30 +248,30 @@ module _ (x y : ℤ) where
   way-output d [] new h = ap (λ (x : Desktop). x.output) h
   way-output d (e ∷ es) new h = way-output e es new h.1 ∙ h.0
 
-  leads-way : (left : LeftOut) (h : Happening) (d : Desktop) (path : List Desktop) (new : Desktop) → Leads left h d path new → IsWay d path new
-  leads-way left h d path new leads =
-      let follow = leads-follow left h d path new leads in
+  leads-way : (h : Happening) (d : Desktop) (path : List Desktop) (new : Desktop) → Leads h d path new → IsWay d path new
+  leads-way h d path new leads =
+      let follow = leads-follow h d path new leads in
       let way = along-way follow.0 follow.1 new follow.3 in
-      subst (λ (p : List Desktop). IsWay d p new) (sym follow.2) (sym (way-output follow.0 follow.1 new way) ∙ leads-output left h d path new leads, way)
+      subst (λ (p : List Desktop). IsWay d p new) (sym follow.2) (sym (way-output follow.0 follow.1 new way) ∙ leads-output h d path new leads, way)
 
   -- What is marked at most from the first desktop of a happening to its last, where no press moved a toplevel up, is marked at most through the
   -- desktops on the way.
-  pub most-through : (left : LeftOut) (h : Happening) (d : Desktop) (path : List Desktop) (e : Desktop) (raised : Option (ℕ × ℕ)) → AreDistinct (all_windows d) → Leads left h d path e
+  pub most-through : (h : Happening) (d : Desktop) (path : List Desktop) (e : Desktop) (raised : Option (ℕ × ℕ)) → AreDistinct (all_windows d) → Leads h d path e
       → marks_at_most d e None x y ≡ true → marks_at_most_through all_windows raised d path x y ≡ true
-  most-through left h d path e raised apart leads marked = by (marks_at_least d e x y) refl marked
+  most-through h d path e raised apart leads marked = by (marks_at_least d e x y) refl marked
     where
       least : (b : Bool) → marks_at_least_through all_windows d path x y ≡ b → marks_at_least d e x y ≡ true → marks_at_most_through all_windows raised d path x y ≡ true
       least true through here = least-most-through d path raised through
-      least false none here = absurd (differ (sym (marked_through left h d path e x y apart leads none) ∙ here))
+      least false none here = absurd (differ (sym (marked_through h d path e x y apart leads none) ∙ here))
 
       allowed : in_output d.output.width d.output.height x y ≡ true → (b : Bool) → list_any (is_allowed_at (all_windows d) (all_windows e) None x y) (all_windows d) ≡ b
           → (b || list_any (is_allowed_at (all_windows d) (all_windows e) None x y) (all_windows e)) ≡ true → marks_at_most_through all_windows raised d path x y ≡ true
       allowed inside true before either =
           let tree = allowed-shows (all_windows d) (all_windows e) (all_windows d) before in
-          changed-through tree.0 tree.1 d path e raised (leads-way left h d path e leads) inside (inl tree.2) tree.3
+          changed-through tree.0 tree.1 d path e raised (leads-way h d path e leads) inside (inl tree.2) tree.3
       allowed inside false none after =
           let tree = allowed-shows (all_windows d) (all_windows e) (all_windows e) after in
-          changed-through tree.0 tree.1 d path e raised (leads-way left h d path e leads) inside (inr tree.2) tree.3
+          changed-through tree.0 tree.1 d path e raised (leads-way h d path e leads) inside (inr tree.2) tree.3
 
       by : (b : Bool) → marks_at_least d e x y ≡ b
           → (b || (in_output d.output.width d.output.height x y && (list_any (is_allowed_at (all_windows d) (all_windows e) None x y) (all_windows d)

@@ -1,10 +1,10 @@
 -- What is said opaque of a window of a client's surface and is, is so of the window as it is lent.
 use Rattle.std.proofs.Common.{◌≡◌, ℕ, ◌+◌, ◌*◌, List, [], Bool, true, false, Option, Some, None, cond, refl, ap, sym, subst, ◌∙◌, length, ℤ, ◌-ℤ◌}
 use Rattle.std.proofs.lemmas.Bool.{and_from}
-use Rattle.std.specs.Prelude.{◌&&◌, nat_le, nat_lt}
+use Rattle.std.specs.Prelude.{◌&&◌, nat_le}
 use Rattle.std.specs.Option.{option_map}
-use Rattle.wl_geom.specs.Rect.{bit, count_at, is_point}
-use Rattle.wl_geom.specs.Region.{Area, Change, Covers, Stands as IsRegion, holds}
+use Rattle.wl_geom.specs.Rect.{is_point}
+use Rattle.wl_geom.specs.Region.{Area, Change, Stands as IsRegion, holds}
 use Rattle.wl_store.specs.Layout.{buffer_color}
 use Rattle.wl_store.specs.declared.color.Argb.{Argb}
 use Rattle.wl_store.specs.Picture.{Shown}
@@ -31,20 +31,16 @@ IsSo d x y w = (contains w x y && holds (x -ℤ w.corner.x) (y -ℤ w.corner.y) 
 abbrev pub IsLentSo : ℤ → ℤ → Lent → Type 0
 IsLentSo x y w = (in_window x y w && is_said_opaque x y w) ≡ true → (color-lent x y w).a ≡ 255
 
-bit-set : (n : ℕ) (b : Bool) → n ≡ bit b → nat_lt 0 n ≡ true → b ≡ true
-bit-set n true e f = refl
-bit-set n false e f = absurd (differ (sym (ap (nat_lt 0) e) ∙ f))
-
 -- the empty region holds no point
-no-bit : (b : Bool) → bit (b && false) ≡ 0
-no-bit true = refl
-no-bit false = refl
+no-point-of : (b : Bool) → (b && false) ≡ false
+no-point-of true = refl
+no-point-of false = refl
 
-no-point : (nowhere : Area) → IsRegion nowhere [] → (x y : ℤ) → count_at x y nowhere.rects ≡ 0
-no-point nowhere empty x y = empty.covered x y ∙ no-bit (is_point x y)
+no-point : (nowhere : Area) → IsRegion nowhere [] → (x y : ℤ) → holds x y nowhere.made ≡ false
+no-point nowhere empty x y = ap (holds x y) empty.listed ∙ no-point-of (is_point x y)
 
 module _ (x y : ℤ) (nowhere : Area) (empty : IsRegion nowhere []) (owner : Owner) (surface : ℕ) (corner : Place) (t scale : ℕ) (a : Attached) (area : Area) (opaque : List Change) (input : Option (List Change))
-    (covers : Covers area.rects opaque) where
+    (listed : area.made ≡ opaque) where
   abbrev here : Window
   here = window x y nowhere owner surface corner t scale a area opaque input
 
@@ -61,16 +57,16 @@ module _ (x y : ℤ) (nowhere : Area) (empty : IsRegion nowhere []) (owner : Own
   pixel_of o = pixel_at (bytes_or o) (buffer_of a) (point x y nowhere owner surface corner t scale a area opaque input)
 
   abbrev said : Bool → Type 0
-  said inside = (inside && nat_lt 0 (count_at (x -ℤ corner.x) (y -ℤ corner.y) area.rects)) ≡ true
+  said inside = (inside && holds (x -ℤ corner.x) (y -ℤ corner.y) area.made) ≡ true
 
   said-held : (inside : Bool) → said inside → held ≡ true
-  said-held inside e = bit-set _ held (covers (x -ℤ corner.x) (y -ℤ corner.y)) (and-right inside _ e)
+  said-held inside e = sym (ap (holds (x -ℤ corner.x) (y -ℤ corner.y)) listed) ∙ and-right inside _ e
 
   -- without a picture nothing is said
   unseen : IsLentSo x y (lent_window nowhere corner area None)
   unseen e =
       let said-there = and-right (in_window x y (lent_window nowhere corner area None)) _ e in
-      absurd (differ (sym (ap (nat_lt 0) (no-point nowhere empty (x -ℤ corner.x) (y -ℤ corner.y))) ∙ said-there))
+      absurd (differ (sym (no-point nowhere empty (x -ℤ corner.x) (y -ℤ corner.y)) ∙ said-there))
 
   said-lent : (o : Option (List ℕ)) → IsSoOf (pixel_of o) → IsLentSo x y (lent_with o)
   said-lent None so = unseen
@@ -83,21 +79,21 @@ module _ (x y : ℤ) (nowhere : Area) (empty : IsRegion nowhere []) (owner : Own
 
 module _ (x y : ℤ) (nowhere : Area) (empty : IsRegion nowhere []) (d : Desktop) (client : Option ClientView) (owner : Owner) (surface : ℕ) (same : option_map (λ (v : ClientView). v.stores) client ≡ option_map (λ (r : Resident). r.peer.stores)
     (client_at owner.client d)) where
-  said-there : (corner : Place) (v : Values) (area : Area) (o : Option Attached) (b : Buffer) → option_map buffer_of o ≡ Some b → Covers area.rects v.opaque
+  said-there : (corner : Place) (v : Values) (area : Area) (o : Option Attached) (b : Buffer) → option_map buffer_of o ≡ Some b → area.made ≡ v.opaque
       → IsSo d x y (window_showing owner surface corner v b) → IsLentSo x y (lent_window nowhere corner area (picture_shown client (transform_of v.transform) v.scale o))
-  said-there corner v area None b e covers so = absurd (cc)
-  said-there corner v area (Some a) b e covers so =
+  said-there corner v area None b e listed so = absurd (cc)
+  said-there corner v area (Some a) b e listed so =
       let one : buffer_of a ≡ b = ap (buffer-in b) e in
       let of-a : IsSo d x y (window_showing owner surface corner v (buffer_of a)) = subst (λ (c : Buffer). IsSo d x y (window_showing owner surface corner v c)) (sym one) so in
       let read = now-from (window x y nowhere owner surface corner v.transform v.scale a area v.opaque v.input) (client_at owner.client d) ∙ ap (λ (o : Option Stock). bytes_or (bytes_from a.store o))
       (sym same) in
-      let so-read = subst (λ (bytes : List ℕ). IsSoOf x y nowhere empty owner surface corner v.transform v.scale a area v.opaque v.input covers
+      let so-read = subst (λ (bytes : List ℕ). IsSoOf x y nowhere empty owner surface corner v.transform v.scale a area v.opaque v.input listed
       (pixel_at bytes (buffer_of a) (point x y nowhere owner surface corner v.transform v.scale a area v.opaque v.input))) read of-a in
       subst (λ (p : Option Shown). IsLentSo x y (lent_window nowhere corner area p)) (sym (shown-from client (transform_of v.transform) v.scale a))
-      (said-lent x y nowhere empty owner surface corner v.transform v.scale a area v.opaque v.input covers (bytes_from a.store (option_map (λ (v : ClientView). v.stores) client)) so-read)
+      (said-lent x y nowhere empty owner surface corner v.transform v.scale a area v.opaque v.input listed (bytes_from a.store (option_map (λ (v : ClientView). v.stores) client)) so-read)
 
   pub said-kept : (told : TreeWindow) (corner : Place) (k : Kept) (h : History) (b : Buffer) → told.x ≡ corner.x → told.y ≡ corner.y → Stands k h → (applied h).buffer ≡ Some b
       → IsSo d x y (window_showing owner surface corner (applied h) b) → IsLentSo x y (window_kept client nowhere told (Some (counting_of k)))
   said-kept told corner k h b at-x at-y is there so =
       rw (is.current.transform_is, is.current.scale_is, at-x, at-y)
-      (said-there corner (applied h) k.current_opaque k.current_buffer b (is.current.buffer_is ∙ there) is.current.opaque_is.covered so)
+      (said-there corner (applied h) k.current_opaque k.current_buffer b (is.current.buffer_is ∙ there) is.current.opaque_is.listed so)

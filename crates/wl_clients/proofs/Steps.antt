@@ -14,7 +14,6 @@ use Rattle.spec_desktop.specs.declared.answers.Done.{Done}
 use Rattle.spec_desktop.specs.Act.{Act, Leave}
 use Rattle.spec_desktop.specs.Desktop.{Desktop, Resident, become, client_at, empty, status_in, status_of, toplevels_of, with_client}
 use Rattle.spec_desktop.specs.Happens.{Happens}
-use Rattle.spec_desktop.specs.LeftOut.{nothing_left_out}
 use Rattle.spec_desktop.specs.Settling.{EndsAndSettles, becomes, unstruck}
 use Rattle.spec_desktop.specs.Through.{ServesThrough}
 use Rattle.law_desktop.proofs.Runs.Forms.{LeavesAt}
@@ -49,10 +48,10 @@ steps-whole act alone done old new small = λ d a.
 
 -- along desktops
 pub through-whole : (c : ℕ) (old new : DeskView) (before after : Damaged) (d : Desktop) → Agrees old d
-    → (e : Desktop) × (path : List Desktop) × ServesThrough nothing_left_out c d path e × Matches new e × MarksThrough d path before after
-    → (e : Desktop) × (path : List Desktop) × ServesThrough nothing_left_out c d path e × Agrees new e × MarksThrough d path before after
+    → (e : Desktop) × (path : List Desktop) × ServesThrough c d path e × Matches new e × MarksThrough d path before after
+    → (e : Desktop) × (path : List Desktop) × ServesThrough c d path e × Agrees new e × MarksThrough d path before after
 through-whole c old new before after d a h =
-    let serves = (messages_lead_through nothing_left_out c d h.0).0 h.1 h.2 in
+    let serves = (messages_lead_through c d h.0).0 h.1 h.2 in
     (h.0, h.1, h.2, record { matches = h.3; ordered = messages_keep_ordered c d h.0 a.ordered serves }, h.4)
 
 pub idles-whole : (c : ℕ) (old new : DeskView) → ((d : Desktop) → Matches old d → Matches new d × IsIdleIn c d) → (d : Desktop) → Agrees old d → Agrees new d × IsIdleIn c d
@@ -164,7 +163,7 @@ ends-away c cause d e ordered ends = at (client_at c d) refl (ended-once c cause
         ∙ ap (λ (s : Option Cause). is_some s) (status-become c r (ended_by r.peer.status cause r.peer) d r is) ∙ over r.peer.status r.peer refl)
 
 -- so is one that leaves
-pub leaves-away : (c : ℕ) (done : Done) (d e : Desktop) → Ordered d → Happens nothing_left_out (Leave c) done d e → IsAway c e
+pub leaves-away : (c : ℕ) (done : Done) (d e : Desktop) → Ordered d → Happens (Leave c) done d e → IsAway c e
 leaves-away c done d e ordered step = at (client_at c d) refl step
   where
     by : (s : Option Cause) (r : Resident) → r.peer.status ≡ s → client_at c d ≡ Some r → LeavesAt c (Some r) d done e → IsAway c e

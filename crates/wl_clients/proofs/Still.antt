@@ -11,7 +11,6 @@ use Rattle.spec_desktop.specs.declared.answers.Done.{Done}
 use Rattle.spec_desktop.specs.Act.{Close, IsClosed, IsSent, IsStored, Send, Store, lowest}
 use Rattle.spec_desktop.specs.Desktop.{Desktop, Resident, arrival, client_at, client_in, owned_in, owned_of, place, with_client, with_number, with_place}
 use Rattle.spec_desktop.specs.Happens.{Happens}
-use Rattle.spec_desktop.specs.LeftOut.{nothing_left_out}
 use Rattle.spec_desktop.specs.Marks.{at_least}
 use Rattle.spec_desktop.specs.Moments.{applied_between, marks_at_least}
 use Rattle.spec_desktop.specs.Popups.{stacked_popups}
@@ -126,14 +125,14 @@ changes-still R goes absent done c d e ordered changes = by (client_at c d) refl
         let k = changed-held R absent done c r d e h in
         subst (λ (x : Desktop). IsStill d x) (sym k.2) (left r k.0 is k.1)
 
-pub stored-still : (c store at : ℕ) (bytes : List ℕ) (done : Done) (d e : Desktop) → Ordered d → Happens nothing_left_out (Store c store at bytes) done d e → IsStill d e
+pub stored-still : (c store at : ℕ) (bytes : List ℕ) (done : Done) (d e : Desktop) → Ordered d → Happens (Store c store at bytes) done d e → IsStill d e
 stored-still c store at bytes done d e ordered h =
     changes-still (IsStored store at bytes) (leaves-over (IsStored store at bytes) (stored-leaves store at bytes)) _ done c d e ordered h
 
-pub sent-still : (c n : ℕ) (done : Done) (d e : Desktop) → Ordered d → Happens nothing_left_out (Send c n) done d e → IsStill d e
+pub sent-still : (c n : ℕ) (done : Done) (d e : Desktop) → Ordered d → Happens (Send c n) done d e → IsStill d e
 sent-still c n done d e ordered h = changes-still (IsSent n) (leaves-over (IsSent n) (sent-leaves n)) _ done c d e ordered h
 
-pub closed-still : (c : ℕ) (done : Done) (d e : Desktop) → Ordered d → Happens nothing_left_out (Close c) done d e → IsStill d e
+pub closed-still : (c : ℕ) (done : Done) (d e : Desktop) → Ordered d → Happens (Close c) done d e → IsStill d e
 closed-still c done d e ordered h = changes-still IsClosed (leaves-over IsClosed closed-leaves) _ done c d e ordered h
 
 -- ---- a piece is kept of a client

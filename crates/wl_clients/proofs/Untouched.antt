@@ -7,7 +7,6 @@ use Rattle.law_desktop.proofs.Runs.Through.{messages_lead_through}
 use Rattle.law_desktop.specs.Ordered.{Ordered, OwnsOrdered}
 use Rattle.spec_desktop.specs.Demand.{Demand}
 use Rattle.spec_desktop.specs.Desktop.{Desktop, Resident, client_at}
-use Rattle.spec_desktop.specs.LeftOut.{nothing_left_out}
 use Rattle.wl_requests.specs.declared.messages.Asked.{Asked}
 use Rattle.wl_requests.specs.declared.residents.Resident.{Resident as Kept}
 use Rattle.wl_requests.specs.Messages.{IsAsked}
@@ -29,7 +28,7 @@ use Rattle.wl_clients.proofs.Seats.{IsHere, view_of}
 
 -- what is demanded touches no tree then
 pub untouched : {A : Type 0} (v : Kept A) (r : Resident) (a : Asked) (demand : Demand) → IsResident v r → OwnsOrdered r → IsAsked v.client a
-    → IsDemanded nothing_left_out (split_of r.peer.rest) r demand → IsTouchedBy v a None → touched_by demand r ≡ None
+    → IsDemanded (split_of r.peer.rest) r demand → IsTouchedBy v a None → touched_by demand r ≡ None
 untouched v r a demand is orderly asks demanded by = at (touch-named v r a demand None is orderly asks demanded by)
   where
     at : IsTouchNamed v r demand None → touched_by demand r ≡ None
@@ -45,8 +44,8 @@ module _ {A : Type 0} (output : Output) (rs : List (Option (Kept A))) (pile : Pi
   no-window ordered lives asked asks by path e leads alive =
       let others = numbers_in (client_views rs) in
       let r : Resident = here.0 in
-      let serves = (messages_lead_through nothing_left_out c d e).0 path leads in
-      let m : MessageChanges nothing_left_out c r d e = messages-change nothing_left_out c r d e ordered.in_order here.2.mapped here.1 serves alive in
+      let serves = (messages_lead_through c d e).0 path leads in
+      let m : MessageChanges c r d e = messages-change c r d e ordered.in_order here.2.mapped here.1 serves alive in
       let is_resident : IsResident v r = seat.resident c others d d r v pile here.2 ordered lives in
       let owns : OwnsOrdered r = seat.owns c others d d r v pile here.2 ordered lives in
       (subst (λ (id : Option ℕ). ChangesAt id c d e) (untouched v r asked m.demand is_resident owns asks m.demanded by) m.changes).windows

@@ -3,7 +3,6 @@ use Rattle.std.specs.Prelude.{ℕ, ◌≡◌, ◌<◌}
 use Rattle.wl_paint.specs.Damage.{has}
 use Rattle.spec_desktop.specs.declared.answers.Done.{Done}
 use Rattle.spec_desktop.specs.Desktop.{Desktop}
-use Rattle.spec_desktop.specs.LeftOut.{nothing_left_out}
 use Rattle.law_desktop.specs.Ordered.{Ordered}
 use Rattle.spec_desktop.specs.Act.{Act}
 use Rattle.spec_desktop.specs.Happens.{Happens}
@@ -18,11 +17,11 @@ pub record Agrees (v : DeskView) (d : Desktop) : Type 0 where
 
 -- One step leads from old to new: whatever desktop agrees before, one to which the step leads agrees after.
 abbrev pub TakesStep : Act → Done → DeskView → DeskView → Type 0
-TakesStep act done old new = (d : Desktop) → Agrees old d → (e : Desktop) × Happens nothing_left_out act done d e × Agrees new e
+TakesStep act done old new = (d : Desktop) → Agrees old d → (e : Desktop) × Happens act done d e × Agrees new e
 
 -- A step marks what it has to.
 abbrev pub MarksStep : Act → Done → MarkedDesk → MarkedDesk → Type 0
-MarksStep act done old new = (d e : Desktop) → Agrees old.desk d → Happens nothing_left_out act done d e → MarksAtLeast d e old.damage new.damage
+MarksStep act done old new = (d e : Desktop) → Agrees old.desk d → Happens act done d e → MarksAtLeast d e old.damage new.damage
 
 -- A call marks nothing: the same points are to be painted again.
 abbrev pub MarksNothing : MarkedDesk → MarkedDesk → Type 0

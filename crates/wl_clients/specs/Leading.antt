@@ -3,7 +3,6 @@ use Rattle.std.specs.Prelude.{ℕ, List, Option, None}
 use Rattle.wl_paint.specs.Damage.{Damaged}
 use Rattle.spec_desktop.specs.Desktop.{Desktop}
 use Rattle.spec_desktop.specs.Happenings.{Happening, Leads, Single}
-use Rattle.spec_desktop.specs.LeftOut.{nothing_left_out}
 use Rattle.spec_desktop.specs.Through.{raised_in}
 use Rattle.wl_clients.specs.Marking.{MarksThroughBy}
 use Rattle.wl_clients.specs.View.{MarkedDesk}
@@ -20,7 +19,7 @@ raised_by happening d = None
 pub record Led (AgreesAfter : Desktop → Type 0) (h : Happening) (old new : Damaged) (d : Desktop) : Type 0 where
   pub path : List Desktop
   pub desktop : Desktop
-  pub leads : Leads nothing_left_out h d path desktop
+  pub leads : Leads h d path desktop
   pub agrees : AgreesAfter desktop
   pub marks : MarksThroughBy (raised_by h d) d path old new
 

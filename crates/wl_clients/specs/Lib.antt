@@ -22,5 +22,6 @@ pub mod Residents
 pub mod Runs
 pub mod Screens
 pub mod Seats
+pub mod Shown
 pub mod Touching
 pub mod View

@@ -22,7 +22,6 @@ ghost use Rattle.law_desktop.specs.Pointed.Pointed.{asked};
 ghost use Rattle.wl_clients.specs.Agreement.{numbers_in};
 ghost use Rattle.wl_clients.specs.Painting.{IsOpaqueAsSaid};
 ghost use Rattle.spec_desktop.specs.Scratch.{scratch};
-ghost use Rattle.spec_desktop.specs.LeftOut.{nothing_left_out};
 ghost use Rattle.spec_desktop.specs.Happenings.{Message, Single, Starve};
 ghost use Rattle.spec_desktop.specs.Happens.{Happens};
 ghost use Rattle.law_desktop.specs.Touching.{has_window_at};
@@ -154,7 +153,7 @@ impl<A: Allocator + Copy> Clients<A> {
         ensures leads { IfSome result (λ taken. (d : Desktop) → Agrees self.old.desk d → IsLatest latest (client_at client d)
             → Led (Agrees self.new.desk) (Message client) self.old.damage self.new.damage d) }
         ensures asks { IfSome result (λ taken. (d : Desktop) → Agrees self.old.desk d
-            → AsksOfPointer (numbers_in self.old.desk.clients client) (asked nothing_left_out client d) taken.pointer) }
+            → AsksOfPointer (numbers_in self.old.desk.clients client) (asked client d) taken.pointer) }
         ensures seat { IfSome result (λ taken. (id : ℕ) → taken.pointer ≡ PointerAsked.NewPointer id → has_seat ≡ false
             → (e : Desktop) → Agrees self.new.desk e → is_some (status_in client e) ≡ true) }
         ensures untouched { IfSome result (λ taken. taken.touches_windows ≡ false → (d : Desktop) → Agrees self.old.desk d → ChangesNoWindow client d) }
@@ -207,7 +206,7 @@ impl<A: Allocator + Copy> Clients<A> {
     /// (wayland.xml, wl_surface.frame). One to which an event isn't queued ends, and its windows are marked. Where none ends, nothing more is to
     /// be painted.
     pub fn frames(&mut self, time: u32)
-        ensures shows { (d : Desktop) → Agrees self.old.desk d → (e : Desktop) × Happens nothing_left_out (Tick time) Done.Tick d e × Agrees self.new.desk e
+        ensures shows { (d : Desktop) → Agrees self.old.desk d → (e : Desktop) × Happens (Tick time) Done.Tick d e × Agrees self.new.desk e
             × MarksAtLeast d e self.old.damage self.new.damage × MarksMost d e self.old.damage self.new.damage
             × MarksIfEnds d e self.old.damage self.new.damage }
         ensures leads { LeadsQuietly (Single (Tick time) Done.Tick) self.old self.new }
@@ -275,7 +274,7 @@ impl<A: Allocator + Copy> Clients<A> {
         ensures leads { LeadsBy (Single (Leave client) (Done.Gone result)) self.old self.new }
         ensures within { (d : Desktop) → Agrees self.old.desk d → (x y : ℕ) → x < self.old.damage.width → y < self.old.damage.height
             → has self.new.damage x y ≡ true → (has self.old.damage x y || has_window_at client (pos x) (pos y) d) ≡ true }
-        ensures most { (d e : Desktop) → Agrees self.old.desk d → Happens nothing_left_out (Leave client) (Done.Gone result) d e → Agrees self.new.desk e
+        ensures most { (d e : Desktop) → Agrees self.old.desk d → Happens (Leave client) (Done.Gone result) d e → Agrees self.new.desk e
             → MarksMost d e self.old.damage self.new.damage }
         ensures sides { IsAsLarge self.old.damage self.new.damage }
         ensures output { self.new.desk.output ≡ self.old.desk.output }

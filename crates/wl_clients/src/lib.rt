@@ -1,5 +1,5 @@
 //! All clients by number, and the screen that they change: each message is served, the toplevels and the windows stacked with them follow, what
-//! changed is marked to be painted again, and the windows are lent to be painted. A desktop where nobody points.
+//! changed is marked to be painted again, and the windows are lent to be painted. The pointer is none of theirs.
 #![tactic(auto)]
 
 mod clients;
@@ -9,6 +9,7 @@ mod painting;
 mod pictures;
 mod pointing;
 mod screen;
+mod shown;
 mod windows;
 
 pub use clients::{Clients, MAX_CLIENTS};
@@ -17,6 +18,7 @@ pub use painting::{lends_opaque_as_said, paints_the_desktop};
 pub use pictures::lend;
 pub use pointing::{mid_begins_and_ends, mid_is_numbered_once, mid_names_surfaces};
 pub use screen::{Screen, Taken, bare, sent, store, touched_by};
+pub use shown::ShownWindow;
 pub use spec_desktop::{ClientNo, ConnectError, Done, Fed, Stored};
 pub use wl_client::PointerEvent;
 pub use wl_requests::PointerAsked;

@@ -17,7 +17,6 @@ use Rattle.spec_desktop.specs.Demand.{Demand, GetPointer}
 use Rattle.spec_desktop.specs.Demanding.{judge_all}
 use Rattle.spec_desktop.specs.Desktop.{Desktop, Resident, become_by, client_at, status_in, status_of, unpointed}
 use Rattle.spec_desktop.specs.Happens.{AnswersThen, BecomesThen, ServesThen, TakesThen}
-use Rattle.spec_desktop.specs.LeftOut.{LeftOut}
 use Rattle.spec_desktop.specs.Moments.{marks_at_least_through, marks_at_most_through}
 use Rattle.spec_desktop.specs.Marks.{AreDistinct}
 use Rattle.spec_desktop.specs.Settling.{Midstep, Strike, Tells, TellsAt, TellsUnless, becomes, ended_by, struck_by, unstruck}
@@ -57,7 +56,7 @@ errs-ended refusal p q h = at (has_room p.unsent (error_told refusal)) h
     at true (inl e) = ap (λ (x : Peer). is_some x.status) e
     at true (inr e) = ap (λ (x : Peer). is_some x.status) e
 
-module _ (left : LeftOut) (c : ℕ) (d : Desktop) (path : List Desktop) (e : Desktop) (there : Resident) (is : client_at c d ≡ Some there) where
+module _ (c : ℕ) (d : Desktop) (path : List Desktop) (e : Desktop) (there : Resident) (is : client_at c d ≡ Some there) where
   erred : (r : Resident) (refusal : Refusal) → BecomesThen (Errs refusal r.peer) c r (unpointed d) (settling_through path e) → is_some (status_in c e) ≡ true
   erred r refusal h =
       let q : Peer = h.0 in
@@ -66,23 +65,23 @@ module _ (left : LeftOut) (c : ℕ) (d : Desktop) (path : List Desktop) (e : Des
       ∙ ap (λ (s : Option Cause). is_some s) (after-status q.status c (become_by q.status c r q (unpointed d)) ∙ status-become c r q (unpointed d) there is)
       ∙ errs-ended refusal r.peer q h.1
 
-  answered : (judged : Result Demand Refusal) (r : Resident) → asked_of judged ≡ None → AnswersThen left judged c r (unpointed d) (settling_through path e) → is_some (status_in c e) ≡ true
+  answered : (judged : Result Demand Refusal) (r : Resident) → asked_of judged ≡ None → AnswersThen judged c r (unpointed d) (settling_through path e) → is_some (status_in c e) ≡ true
   answered (Ok demand) r none h = absurd (none-some demand (sym none))
   answered (Err refusal) r none h = erred r refusal h
 
-  took : (split : Split) (r : Resident) → asked_first left split r ≡ None → TakesThen left split c r (unpointed d) (settling_through path e) → is_some (status_in c e) ≡ true
+  took : (split : Split) (r : Resident) → asked_first split r ≡ None → TakesThen split c r (unpointed d) (settling_through path e) → is_some (status_in c e) ≡ true
   took (Whole object opcode size) r none h =
-      answered (judge_all left r object opcode (take (size - 8) (drop 8 r.peer.rest))) (with_peer (with_rest (drop size r.peer.rest) r.peer) r) none h
+      answered (judge_all r object opcode (take (size - 8) (drop 8 r.peer.rest))) (with_peer (with_rest (drop size r.peer.rest) r.peer) r) none h
   took Bad r none h = erred r (display_error InvalidMethod) h
   took More r none h = absurd h
 
-pub refused-ends : (left : LeftOut) (c : ℕ) (d : Desktop) (path : List Desktop) (e : Desktop) → asked left c d ≡ None → ServesThrough left c (unpointed d) path e
+pub refused-ends : (c : ℕ) (d : Desktop) (path : List Desktop) (e : Desktop) → asked c d ≡ None → ServesThrough c (unpointed d) path e
     → is_some (status_in c e) ≡ true
-refused-ends left c d path e none h = at (client_at c d) refl none h
+refused-ends c d path e none h = at (client_at c d) refl none h
   where
-    at : (o : Option Resident) → client_at c d ≡ o → asked_by left o ≡ None → ServesThen left c o (unpointed d) (settling_through path e) → is_some (status_in c e) ≡ true
+    at : (o : Option Resident) → client_at c d ≡ o → asked_by o ≡ None → ServesThen c o (unpointed d) (settling_through path e) → is_some (status_in c e) ≡ true
     at None is none h = absurd h
-    at (Some r) is none h = took left c d path e r is (split_of r.peer.rest) r none h.1
+    at (Some r) is none h = took c d path e r is (split_of r.peer.rest) r none h.1
 
 -- ---- who is told
 
@@ -120,53 +119,53 @@ told-still change events c x n h = at (client_at c x) h
 
 -- ---- the pointer is put back, and nobody is told
 
-pub on-away : (left : LeftOut) (c : ℕ) (d : Desktop) (path : List Desktop) (e : Desktop) → MovedStands d → AsksNone (asked left c d) ⊎ (has_focus c d.pointer.focus ≡ false)
-    → ServesThrough left c (unpointed d) path e → SettlesOn (put_back left c d) (ServesThrough left c d) path e
-on-away left c d path e moved (inl never) h = pointer-apart-through left c d path e moved (λ id version asks. absurd (never id version asks)) h
-on-away left c d path e moved (inr away) h = pointer-apart-through left c d path e moved (λ id version asks. away) h
+pub on-away : (c : ℕ) (d : Desktop) (path : List Desktop) (e : Desktop) → MovedStands d → AsksNone (asked c d) ⊎ (has_focus c d.pointer.focus ≡ false)
+    → ServesThrough c (unpointed d) path e → SettlesOn (put_back c d) (ServesThrough c d) path e
+on-away c d path e moved (inl never) h = pointer-apart-through c d path e moved (λ id version asks. absurd (never id version asks)) h
+on-away c d path e moved (inr away) h = pointer-apart-through c d path e moved (λ id version asks. away) h
 
-pub on-ended : (left : LeftOut) (c : ℕ) (d : Desktop) (path : List Desktop) (e : Desktop) → MovedStands d → ServesThrough left c (unpointed d) path e
-    → is_some (status_in c e) ≡ true → SettlesOn (put_back left c d) (ServesThrough left c d) path e
-on-ended left c d path e moved h ended = at (has_focus c d.pointer.focus) refl (asks-new (asked left c d))
+pub on-ended : (c : ℕ) (d : Desktop) (path : List Desktop) (e : Desktop) → MovedStands d → ServesThrough c (unpointed d) path e
+    → is_some (status_in c e) ≡ true → SettlesOn (put_back c d) (ServesThrough c d) path e
+on-ended c d path e moved h ended = at (has_focus c d.pointer.focus) refl (asks-new (asked c d))
   where
-    at : (b : Bool) → has_focus c d.pointer.focus ≡ b → AsksNone (asked left c d) ⊎ AsksNew (asked left c d) → SettlesOn (put_back left c d) (ServesThrough left c d) path e
-    at false has asks = on-away left c d path e moved (inr has) h
-    at true has (inl never) = on-away left c d path e moved (inl never) h
+    at : (b : Bool) → has_focus c d.pointer.focus ≡ b → AsksNone (asked c d) ⊎ AsksNew (asked c d) → SettlesOn (put_back c d) (ServesThrough c d) path e
+    at false has asks = on-away c d path e moved (inr has) h
+    at true has (inl never) = on-away c d path e moved (inl never) h
     at true has (inr is) =
-        let put : Desktop = put_back left c d e in
-        let both = new-pointer-apart-through left c is.0 is.1 d path e (unstruck put) moved is.2 has h (tells-ended (drawing true) (new_entered is.0 put) c put ended) in
+        let put : Desktop = put_back c d e in
+        let both = new-pointer-apart-through c is.0 is.1 d path e (unstruck put) moved is.2 has h (tells-ended (drawing true) (new_entered is.0 put) c put ended) in
         ([], both.0, λ later new k. both.1 (put ∷ later) new (later, refl, k))
 
 -- ---- the new wl_pointer is told
 
-module _ (left : LeftOut) (c id version : ℕ) (d : Desktop) (path : List Desktop) (e : Desktop) (n : Midstep) (moved : MovedStands d)
-    (asks : asked left c d ≡ Some (GetPointer id version)) (has : has_focus c d.pointer.focus ≡ true) (leads : ServesThrough left c (unpointed d) path e)
-    (tells : TellsNew id c (put_back left c d e) n) where
+module _ (c id version : ℕ) (d : Desktop) (path : List Desktop) (e : Desktop) (n : Midstep) (moved : MovedStands d)
+    (asks : asked c d ≡ Some (GetPointer id version)) (has : has_focus c d.pointer.focus ≡ true) (leads : ServesThrough c (unpointed d) path e)
+    (tells : TellsNew id c (put_back c d e) n) where
   midstep : List Strike → Midstep
   midstep ss = record { desktop = n.desktop; struck = ss }
 
-  on-told : (way : List Desktop) (new : Desktop) (ss : List Strike) → n.struck ≡ ss → settling_through way new (midstep ss) → ServesThrough left c d way new
+  on-told : (way : List Desktop) (new : Desktop) (ss : List Strike) → n.struck ≡ ss → settling_through way new (midstep ss) → ServesThrough c d way new
   unfolding midstep
   on-told way new ss is k =
-      (new-pointer-apart-through left c id version d path e n moved asks has leads tells).1 way new (subst (λ (ss : List Strike). settling_through way new (midstep ss)) (sym is) k)
+      (new-pointer-apart-through c id version d path e n moved asks has leads tells).1 way new (subst (λ (ss : List Strike). settling_through way new (midstep ss)) (sym is) k)
 
   -- and lives on
-  pub on-queued : n.struck ≡ [] → (later : List Desktop) (new : Desktop) → SettlesAllThrough 33 (unstruck n.desktop) later new → ServesThrough left c d ((n.desktop ∷ []) ++ later) new
+  pub on-queued : n.struck ≡ [] → (later : List Desktop) (new : Desktop) → SettlesAllThrough 33 (unstruck n.desktop) later new → ServesThrough c d ((n.desktop ∷ []) ++ later) new
   unfolding midstep
   on-queued none later new k = on-told (n.desktop ∷ later) new [] none (later, refl, k)
 
   -- or ends, since that wasn't queued
   pub on-refused : (s : Strike) → n.struck ≡ s ∷ [] → (later : List Desktop) (new : Desktop) → SettlesAllThrough 33 (unstruck (ended_by s n.desktop)) later new
-      → ServesThrough left c d ((n.desktop ∷ ended_by s n.desktop ∷ []) ++ later) new
+      → ServesThrough c d ((n.desktop ∷ ended_by s n.desktop ∷ []) ++ later) new
   unfolding midstep
   on-refused s one later new k = on-told (n.desktop ∷ ended_by s n.desktop ∷ later) new (s ∷ []) one (later, refl, k)
 
   -- what it is told marks nothing
   pub told-marks : AreDistinct (all_windows e) → MarksSame d (n.desktop ∷ []) (unpointed d) path
   told-marks apart x y =
-      let way = (new-pointer-apart-through left c id version d path e n moved asks has leads tells).0 in
-      let told = new-pointer-marks id c d (put_back left c d e) n [] x y tells in
-      let both = marks-apart (pointer_after left c d) None d e [] [] x y apart in (
+      let way = (new-pointer-apart-through c id version d path e n moved asks has leads tells).0 in
+      let told = new-pointer-marks id c d (put_back c d e) n [] x y tells in
+      let both = marks-apart (pointer_after c d) None d e [] [] x y apart in (
         told.0 ∙ both.0 ∙ none-more (marks_at_least_through all_windows (unpointed d) (e ∷ e ∷ []) x y)
             ∙ ap (λ (xs : List Desktop). marks_at_least_through all_windows (unpointed d) xs x y) (sym way),
         told.1 ∙ both.1 ∙ none-more (marks_at_most_through all_windows None (unpointed d) (e ∷ e ∷ []) x y)

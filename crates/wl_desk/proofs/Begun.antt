@@ -10,7 +10,6 @@ use Rattle.spec_desktop.specs.Changing.{is_focus_in, is_serial, kept_move}
 use Rattle.spec_desktop.specs.Demand.{Demand, Asks, EndSurface, AskFrame, CommitTree, GetSubsurface, EndSubsurface, SetMode, GetPointer, MakeCursor, Reposition}
 use Rattle.spec_desktop.specs.Demand.{GetPopup, Grab, EndPopup, EndToplevel, Move}
 use Rattle.spec_desktop.specs.Desktop.{Desktop, status_in, unpointed}
-use Rattle.spec_desktop.specs.LeftOut.{LeftOut, nothing_left_out}
 use Rattle.spec_desktop.specs.Settling.{pointer_without, unless_of}
 use Rattle.spec_desktop.specs.Stacked.{all_windows}
 use Rattle.spec_desktop.specs.Through.{ServesThrough}
@@ -38,60 +37,47 @@ to_move (Some demand) c d = moved_by demand c d
 
 -- what is asked begins to move a toplevel, or leaves the pointer as it is
 for-begun : (demand : Demand) (c : ℕ) (d : Desktop) → pointer_for demand c d ≡ begun (moved_by demand c d) d.pointer
-for-begun (Asks ask) c d = refl
-for-begun (EndSurface id) c d = refl
-for-begun (AskFrame id version surface) c d = refl
-for-begun (CommitTree surface) c d = refl
-for-begun (GetSubsurface id version child parent) c d = refl
-for-begun (EndSubsurface id) c d = refl
-for-begun (SetMode link synchronised) c d = refl
-for-begun (GetPointer id version) c d = refl
-for-begun (MakeCursor surface) c d = refl
-for-begun (GetPopup id version xdg parent p) c d = refl
-for-begun (Reposition xdg token p) c d = refl
-for-begun (Grab xdg serial) c d = refl
-for-begun (EndPopup id xdg) c d = refl
-for-begun (EndToplevel id xdg surface) c d = refl
 for-begun (Move surface serial) c d = at (is_serial serial d.pointer.hold && is_focus_in c surface d.pointer.focus (all_windows d))
   where
     at : (b : Bool) → (if b then record d.pointer { move = Some (record { client = c; surface = surface }) } else d.pointer)
         ≡ begun (if b then Some (record { client = c; surface = surface }) else None) d.pointer
     at true = refl
     at false = refl
+for-begun demand c d = refl
 
 asked-begun : (o : Option Demand) (c : ℕ) (d : Desktop) → pointer_asked o c d ≡ begun (to_move o c d) d.pointer
 asked-begun None c d = refl
 asked-begun (Some demand) c d = for-begun demand c d
 
 -- the pointer after a message, by the toplevel that it begins to move, and how its client is then
-pub after-begun : (left : LeftOut) (c : ℕ) (d e : Desktop) → pointer_after left c d e ≡ keeping e.standing (pointer_if (status_in c e) c (begun (to_move (asked left c d) c d) d.pointer))
-after-begun left c d e = ap (λ (p : Pointer). keeping e.standing (pointer_if (status_in c e) c p)) (asked-begun (asked left c d) c d)
+pub after-begun : (c : ℕ) (d e : Desktop) → pointer_after c d e ≡ keeping e.standing (pointer_if (status_in c e) c (begun (to_move (asked c d) c d) d.pointer))
+after-begun c d e = ap (λ (p : Pointer). keeping e.standing (pointer_if (status_in c e) c p)) (asked-begun (asked c d) c d)
 
 -- what it moves stands then
-pub back-placed : (left : LeftOut) (c : ℕ) (d e : Desktop) → IsPlaced d → IsPlaced (pointed (pointer_after left c d e) e)
-back-placed left c d e placed =
-    subst (λ (p : Pointer). IsPlaced (pointed p e)) (sym (after-begun left c d e))
-    (after-placed (status_in c e) c (to_move (asked left c d) c d) d.pointer e placed.nowhere)
+pub back-placed : (c : ℕ) (d e : Desktop) → IsPlaced d → IsPlaced (pointed (pointer_after c d e) e)
+back-placed c d e placed =
+    subst (λ (p : Pointer). IsPlaced (pointed p e)) (sym (after-begun c d e))
+    (after-placed (status_in c e) c (to_move (asked c d) c d) d.pointer e placed.nowhere)
 
 -- ---- where its client ended
 
 -- a message that ends its client doesn't begin to move a toplevel
-pub none-begun : (left : LeftOut) (c : ℕ) (d : Desktop) (path : List Desktop) (e : Desktop) → ServesThrough left c (unpointed d) path e → is_some (status_in c e) ≡ true
-    → to_move (asked left c d) c d ≡ None
-none-begun left c d path e leads over = by (asked left c d) refl
+pub none-begun : (c : ℕ) (d : Desktop) (path : List Desktop) (e : Desktop) → ServesThrough c (unpointed d) path e → is_some (status_in c e) ≡ true
+    → to_move (asked c d) c d ≡ None
+none-begun c d path e leads over = by (asked c d) refl
   where
-    by : (o : Option Demand) → asked left c d ≡ o → to_move o c d ≡ None
+    by : (o : Option Demand) → asked c d ≡ o → to_move o c d ≡ None
     by None is = refl
     by (Some (Move surface serial)) is =
-        absurd (true≢false (sym over ∙ ap (λ (s : Option Cause). is_some s) (move-lives left c surface serial d path e is leads)))
+        absurd (true≢false (sym over ∙ ap (λ (s : Option Cause). is_some s) (move-lives c surface serial d path e is leads)))
     by (Some demand) is = refl
 
-pub after-end : (left : LeftOut) (c : ℕ) (why : Cause) (d : Desktop) (path : List Desktop) (e : Desktop) → ServesThrough left c (unpointed d) path e → status_in c e ≡ Some why
-    → pointer_after left c d e ≡ keeping e.standing (pointer_without c d.pointer)
-after-end left c why d path e leads over =
-    after-begun left c d e
+pub after-end : (c : ℕ) (why : Cause) (d : Desktop) (path : List Desktop) (e : Desktop) → ServesThrough c (unpointed d) path e → status_in c e ≡ Some why
+    → pointer_after c d e ≡ keeping e.standing (pointer_without c d.pointer)
+after-end c why d path e leads over =
+    after-begun c d e
     ∙ ap₂ (λ (s : Option Cause) (t : Option Target). keeping e.standing (pointer_if s c (begun t d.pointer))) over
-    (none-begun left c d path e leads (ap (λ (s : Option Cause). is_some s) over))
+    (none-begun c d path e leads (ap (λ (s : Option Cause). is_some s) over))
 
 -- ---- where it lives
 
@@ -100,13 +86,13 @@ to-move-is : (o : Option Demand) (c : ℕ) (d : Desktop) (t : Option Target) →
 to-move-is None c d t some is = absurd (some refl)
 to-move-is (Some demand) c d t some is = is
 
-pub after-life : (c : ℕ) (d : Desktop) (path : List Desktop) (e : Desktop) (t : Option Target) → ServesThrough nothing_left_out c (unpointed d) path e → status_in c e ≡ None
-    → IsToMove (asked nothing_left_out c d) c d t → pointer_after nothing_left_out c d e ≡ keeping e.standing (begun t d.pointer)
+pub after-life : (c : ℕ) (d : Desktop) (path : List Desktop) (e : Desktop) (t : Option Target) → ServesThrough c (unpointed d) path e → status_in c e ≡ None
+    → IsToMove (asked c d) c d t → pointer_after c d e ≡ keeping e.standing (begun t d.pointer)
 after-life c d path e t leads alive is =
-    let same : t ≡ to_move (asked nothing_left_out c d) c d =
-    to-move-is (asked nothing_left_out c d) c d t
-    (λ none. absurd (true≢false (sym (refused-ends nothing_left_out c d path e none leads) ∙ ap (λ (s : Option Cause). is_some s) alive))) is in
-    after-begun nothing_left_out c d e
+    let same : t ≡ to_move (asked c d) c d =
+    to-move-is (asked c d) c d t
+    (λ none. absurd (true≢false (sym (refused-ends c d path e none leads) ∙ ap (λ (s : Option Cause). is_some s) alive))) is in
+    after-begun c d e
     ∙ ap₂ (λ (s : Option Cause) (m : Option Target). keeping e.standing (pointer_if s c (begun m d.pointer))) alive (sym same)
 
 begun-looks : (t : Option Target) (standing : List Standing) (p : Pointer) → LooksAs p (keeping standing (begun t p))
@@ -114,20 +100,20 @@ begun-looks None standing p = record { place = refl; buttons = refl; focus = ref
 begun-looks (Some t) standing p = record { place = refl; buttons = refl; focus = refl }
 
 -- the focus is settled still where the windows are as they were
-pub after-settled : (c : ℕ) (d e : Desktop) → status_in c e ≡ None → IsSettled d → all_windows e ≡ all_windows d → IsSettled (pointed (pointer_after nothing_left_out c d e) e)
+pub after-settled : (c : ℕ) (d e : Desktop) → status_in c e ≡ None → IsSettled d → all_windows e ≡ all_windows d → IsSettled (pointed (pointer_after c d e) e)
 after-settled c d e alive is same =
-    let t : Option Target = to_move (asked nothing_left_out c d) c d in
-    let after : pointer_after nothing_left_out c d e ≡ keeping e.standing (begun t d.pointer) =
-    after-begun nothing_left_out c d e ∙ ap (λ (s : Option Cause). keeping e.standing (pointer_if s c (begun t d.pointer))) alive in
+    let t : Option Target = to_move (asked c d) c d in
+    let after : pointer_after c d e ≡ keeping e.standing (begun t d.pointer) =
+    after-begun c d e ∙ ap (λ (s : Option Cause). keeping e.standing (pointer_if s c (begun t d.pointer))) alive in
     subst (λ (p : Pointer). p.focus ≡ settled p (all_windows e)) (sym after)
     (settled-still d.pointer (keeping e.standing (begun t d.pointer)) (all_windows d) (all_windows e) (begun-looks t e.standing d.pointer) same is)
 
 -- a new wl_pointer leaves the pointer as it is
-pub after-get : (left : LeftOut) (c id version : ℕ) (d : Desktop) (path : List Desktop) (e : Desktop) → MovedStands d → asked left c d ≡ Some (GetPointer id version)
-    → ServesThrough left c (unpointed d) path e → status_in c e ≡ None → pointer_after left c d e ≡ d.pointer
-after-get left c id version d path e moved asks leads alive =
-    let stands : e.standing ≡ d.standing = get-stands left c id version d path e asks leads alive in
-    after-begun left c d e
+pub after-get : (c id version : ℕ) (d : Desktop) (path : List Desktop) (e : Desktop) → MovedStands d → asked c d ≡ Some (GetPointer id version)
+    → ServesThrough c (unpointed d) path e → status_in c e ≡ None → pointer_after c d e ≡ d.pointer
+after-get c id version d path e moved asks leads alive =
+    let stands : e.standing ≡ d.standing = get-stands c id version d path e asks leads alive in
+    after-begun c d e
     ∙ ap₂ (λ (s : Option Cause) (o : Option Demand). keeping e.standing (pointer_if s c (begun (to_move o c d) d.pointer))) alive asks
     ∙ keeping-stays d.pointer e.standing (ap (λ (ss : List Standing). kept_move d.pointer.move ss) stands ∙ moved)
 

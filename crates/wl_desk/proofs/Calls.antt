@@ -11,15 +11,15 @@ use Rattle.spec_desktop.specs.declared.answers.Fed.TheVariants.{Alive}
 use Rattle.spec_desktop.specs.Act.{Act, Connect, Leave, Tick, peer_at, status_of}
 use Rattle.spec_desktop.specs.Desktop.{Desktop, unpointed}
 use Rattle.spec_desktop.specs.Happenings.{Message, Single, Starve}
-use Rattle.spec_desktop.specs.Settling.{Midstep, pointer_without}
+use Rattle.spec_desktop.specs.Settling.{pointer_without}
 use Rattle.law_desktop.specs.Pointed.Happenings.{is_quiet, pointer_left}
 use Rattle.wl_clients.specs.Agreeing.{Agrees as KeptAgrees, MarksNothing as KeptMarksNothing}
 use Rattle.wl_clients.specs.Leading.{LeadsBy as KeptLeadsBy, LeadsQuietly as KeptLeadsQuietly, Led}
 use Rattle.wl_clients.specs.View.{MarkedDesk as KeptDesk}
 use Rattle.wl_clients.specs.declared.grabs.Latest.{Latest}
 use Rattle.wl_desk.specs.Agreeing.{Agrees, LeadsBy, LeadsQuietly, MarksNothing}
-use Rattle.wl_desk.specs.Midway.{IsMidway, SettlesDown}
 use Rattle.wl_desk.specs.View.{DeskView, MarkedDesk}
+use Rattle.wl_desk.specs.Ways.{SettlesFrom}
 use Rattle.wl_desk.proofs.Coming.{HasCome, connects-lead}
 use Rattle.wl_desk.proofs.Ending.{ends-lead}
 use Rattle.wl_desk.proofs.Frames.{frames-lead}
@@ -29,9 +29,6 @@ use Rattle.wl_desk.proofs.SeatsStay.{KeepsSeats, seats-stay}
 
 abbrev pub desk_with : KeptDesk → List (List ℕ) → List Latest → Pointer → MarkedDesk
 desk_with k seats latest p = record { desk = record { kept = k.desk; seats = seats; latest = latest; pointer = p }; damage = k.damage }
-
-abbrev pub Settles : MarkedDesk → MarkedDesk → Type 0
-Settles mid new = (m : Midstep) → IsMidway mid.desk m → SettlesDown mid new m
 
 pub large-on : (a b c : Damaged) → IsAsLarge a b → IsAsLarge b c → IsAsLarge a c
 large-on a b c first second = record { width = second.width ∙ first.width; height = second.height ∙ first.height }
@@ -97,13 +94,13 @@ connects-not why old after seats latest p leads d a =
 
 pub starves : (c : ℕ) (old after : KeptDesk) (seats : List (List ℕ)) (latest : List Latest) (p q : Pointer) (new : MarkedDesk)
     → ((d : Desktop) → KeptAgrees old.desk d → status_of (peer_at c d) ≡ Alive → Led (KeptAgrees after.desk) (Starve c) old.damage after.damage d)
-    → IsAsLarge old.damage after.damage → q ≡ pointer_without c p → Settles (desk_with after seats latest q) new
+    → IsAsLarge old.damage after.damage → q ≡ pointer_without c p → SettlesFrom (desk_with after seats latest q) new
     → (d : Desktop) → Agrees (desk_with old seats latest p).desk d → status_of (peer_at c d) ≡ Alive → Led (Agrees new.desk) (Starve c) old.damage new.damage d
 starves c old after seats latest p q new leads large left settles d a alive =
     ends-lead c (Starve c) d (desk_with old seats latest p) (desk_with after seats latest q) new (inl refl) a (leads (unpointed d) a.kept alive) large refl refl left settles
 
 pub goes : (c : ℕ) (old after : KeptDesk) (seats : List (List ℕ)) (latest : List Latest) (p q : Pointer) (new : MarkedDesk) → KeptLeadsBy (Single (Leave c) (gave.Gone true)) old after
-    → IsAsLarge old.damage after.damage → q ≡ pointer_without c p → Settles (desk_with after seats latest q) new
+    → IsAsLarge old.damage after.damage → q ≡ pointer_without c p → SettlesFrom (desk_with after seats latest q) new
     → LeadsBy (Single (Leave c) (gave.Gone true)) (desk_with old seats latest p) new
 goes c old after seats latest p q new leads large left settles d a =
     ends-lead c (Single (Leave c) (gave.Gone true)) d (desk_with old seats latest p) (desk_with after seats latest q) new (inr refl) a (leads (unpointed d) a.kept) large refl refl left settles
@@ -113,7 +110,7 @@ goes c old after seats latest p q new leads large left settles d a =
 pub frames : (time : ℕ) (old after : KeptDesk) (seats : List (List ℕ)) (latest : List Latest) (p : Pointer) (mid new : MarkedDesk) → KeptLeadsQuietly (Single (Tick time) gave.Tick) old after
     → IsAsLarge old.damage after.damage → mid.desk.kept ≡ after.desk → mid.desk.seats ≡ seats → mid.desk.latest ≡ latest → mid.damage ≡ after.damage
     → ((was : DeskView) (d e : Desktop) → Agrees was d → p ≡ d.pointer → KeptAgrees after.desk e → mid.desk.pointer ≡ pointer_left d e)
-    → Settles mid new → LeadsQuietly (Single (Tick time) gave.Tick) (desk_with old seats latest p) new
+    → SettlesFrom mid new → LeadsQuietly (Single (Tick time) gave.Tick) (desk_with old seats latest p) new
 frames time old after seats latest p mid new leads large kept same keeps damage left settles d a =
     let led = leads (unpointed d) a.kept in
     let parts : mid ≡ desk_with after seats latest mid.desk.pointer =
@@ -121,4 +118,4 @@ frames time old after seats latest p mid new leads large kept same keeps damage 
     ∙ ap (λ (l : List Latest). desk_with after seats l mid.desk.pointer) keeps in
     frames-lead time d (desk_with old seats latest p) (desk_with after seats latest mid.desk.pointer) new a led.0 led.1 large refl refl
     (left (desk_with old seats latest p).desk d led.0.desktop a a.pointer led.0.agrees)
-    (subst (λ (m : MarkedDesk). Settles m new) parts settles)
+    (subst (λ (m : MarkedDesk). SettlesFrom m new) parts settles)

@@ -11,7 +11,6 @@ use Rattle.spec_desktop.specs.Act.{Connect, lowest, next_of}
 use Rattle.spec_desktop.specs.Desktop.{Desktop, Resident, client_at, empty, place, unpointed}
 use Rattle.spec_desktop.specs.Happenings.{Leads, Single}
 use Rattle.spec_desktop.specs.Happens.{ConnectsThen}
-use Rattle.spec_desktop.specs.LeftOut.{nothing_left_out}
 use Rattle.spec_desktop.specs.Settling.{unstruck}
 use Rattle.spec_desktop.specs.Through.{ending_through}
 use Rattle.law_desktop.proofs.Runs.Fates.{same-or}
@@ -75,7 +74,7 @@ came c (gave.Connect (Ok k)) = k
 came c done = c
 
 -- nobody had its number
-free-before : (c : ℕ) (d : Desktop) (path : List Desktop) (e : Desktop) → Leads nothing_left_out (Single Connect (gave.Connect (Ok c))) d path e → client_at c d ≡ None
+free-before : (c : ℕ) (d : Desktop) (path : List Desktop) (e : Desktop) → Leads (Single Connect (gave.Connect (Ok c))) d path e → client_at c d ≡ None
 unfolding came
 free-before c d path e leads = at (lowest d.clients) refl leads
   where
@@ -90,15 +89,15 @@ same-number c k e = cc
 
 -- it has no wl_pointers yet, and the others have those that they had
 came-seats : (old new : List (List ℕ)) (c : ℕ) (d : Desktop) (path : List Desktop) (e : Desktop) → seat_of new c ≡ [] → ((k : ℕ) → k ≢ c → seat_of new k ≡ seat_of old k) → AreSeats old d
-    → Leads nothing_left_out (Single Connect (gave.Connect (Ok c))) (unpointed d) path e → AreSeats new e
-came-seats old new c d path e cleared others are leads k q there lives = at (pointers-stay nothing_left_out (Single Connect (gave.Connect (Ok c))) (unpointed d) path e k q leads there lives)
+    → Leads (Single Connect (gave.Connect (Ok c))) (unpointed d) path e → AreSeats new e
+came-seats old new c d path e cleared others are leads k q there lives = at (pointers-stay (Single Connect (gave.Connect (Ok c))) (unpointed d) path e k q leads there lives)
   where
     had : (r : Resident) → client_at k d ≡ Some r → r.peer.status ≡ None → q.pointers ≡ r.pointers → (c ≡ k) ⊎ (c ≢ k) → seat_of new k ≡ q.pointers
     had r is alive same (inl here) =
         absurd (some-none r (sym is ∙ subst (λ (n : ℕ). client_at n d ≡ None) here (free-before c (unpointed d) path e leads)))
     had r is alive same (inr differ) = others k (λ e. differ (sym e)) ∙ are k r is alive ∙ sym same
 
-    at : HasPointersAfter nothing_left_out (Single Connect (gave.Connect (Ok c))) (unpointed d) k q → seat_of new k ≡ q.pointers
+    at : HasPointersAfter (Single Connect (gave.Connect (Ok c))) (unpointed d) k q → seat_of new k ≡ q.pointers
     at (inl h) = had h.0 h.1 h.2 h.3 (same-or c k)
     at (inr (inl asked)) = absurd (cc)
     at (inr (inr h)) =
@@ -107,9 +106,9 @@ came-seats old new c d path e cleared others are leads k q there lives = at (poi
 
 -- it was told of no button yet, and the others keep their serials
 came-latest : (old new : List Latest) (c : ℕ) (d : Desktop) (path : List Desktop) (e : Desktop) → latest_of new c ≡ no_latest → ((k : ℕ) → k ≢ c → latest_of new k ≡ latest_of old k)
-    → AreLatest old (unstruck d) → Leads nothing_left_out (Single Connect (gave.Connect (Ok c))) (unpointed d) path e → AreLatest new (unstruck e)
+    → AreLatest old (unstruck d) → Leads (Single Connect (gave.Connect (Ok c))) (unpointed d) path e → AreLatest new (unstruck e)
 came-latest old new c d path e none others are leads k q there lives free =
-    at (serials-stay nothing_left_out (Single Connect (gave.Connect (Ok c))) (unpointed d) path e k q (λ time button pressed done e. absurd (cc)) leads there lives)
+    at (serials-stay (Single Connect (gave.Connect (Ok c))) (unpointed d) path e k q (λ time button pressed done e. absurd (cc)) leads there lives)
   where
     had : (r : Resident) → client_at k d ≡ Some r → r.peer.status ≡ None → q.press ≡ r.press → q.release ≡ r.release → (c ≡ k) ⊎ (c ≢ k) → IsLatest (latest_of new k) (Some q)
     had r is alive press release (inl here) =

@@ -3,7 +3,6 @@ use Rattle.std.proofs.Common.{◌≡◌, ℕ, List, ap, subst, sym, ◌∙◌}
 use Rattle.spec_desktop.specs.Pointer.{Pointer}
 use Rattle.spec_desktop.specs.Desktop.{Desktop, unpointed}
 use Rattle.spec_desktop.specs.Happenings.{Happening}
-use Rattle.spec_desktop.specs.LeftOut.{nothing_left_out}
 use Rattle.spec_desktop.specs.Settling.{Midstep, pointer_without, unstruck}
 use Rattle.wl_scene.specs.Marking.{IsAsLarge}
 use Rattle.law_desktop.specs.Pointed.Happenings.{IsEndOf}
@@ -52,5 +51,5 @@ ends-lead c h d old mid new end a led large seats latest pointer settles =
     begins mid.desk p led.desktop led.agrees (pointer ∙ ap (pointer_without c) a.pointer) (end-placed c h d led.path led.desktop end led.leads a.placed)
     (subst (λ (s : List (List ℕ)). AreSeats s led.desktop) (sym seats) (seats-stay old.desk.seats h d led.path led.desktop (end-keeps-seats c h end) a.seats led.leads))
     (subst (λ (l : List Latest). AreLatest l (unstruck led.desktop)) (sym latest) (latest-stay old.desk.latest h d led.path led.desktop (end-keeps c h end) a.latest led.leads)) in
-    leads-on h (λ e. p) d led.path led.desktop old.damage mid new (ends-apart nothing_left_out c h d led.path led.desktop end led.leads) large
+    leads-on h (λ e. p) d led.path led.desktop old.damage mid new (ends-apart c h d led.path led.desktop end led.leads) large
     (marks-unraised (raised_by h (unpointed d)) (unpointed d) led.path old.damage mid.damage (end-unraised c h (unpointed d) end) led.marks) midway (settles start midway) (end-unraised c h d end)

@@ -13,12 +13,12 @@ use Rattle.spec_desktop.specs.Changing.{drawing, has_focus}
 use Rattle.spec_desktop.specs.Demand.{GetPointer}
 use Rattle.spec_desktop.specs.Desktop.{Desktop, Resident, status_in, unpointed}
 use Rattle.spec_desktop.specs.Happenings.{Message}
-use Rattle.spec_desktop.specs.LeftOut.{nothing_left_out}
 use Rattle.spec_desktop.specs.Replies.{entered_at, focus_window}
-use Rattle.spec_desktop.specs.Settling.{Midstep, Strike, Tells, ended_by, pointer_without, unstruck}
+use Rattle.spec_desktop.specs.Settling.{Midstep, Settles, Strike, Tells, ended_by, pointer_without, unstruck}
 use Rattle.spec_desktop.specs.Stacked.{all_windows}
 use Rattle.law_desktop.specs.Focus.{IsSettled}
 use Rattle.law_desktop.specs.Pointed.Pointed.{asked, keeping}
+use Rattle.law_desktop.proofs.Runs.Settled.{settles-settled}
 use Rattle.wl_requests.specs.declared.pointer_asked.PointerAsked.{PointerAsked}
 use Rattle.wl_requests.specs.declared.pointer_asked.PointerAsked.TheVariants.{NewPointer}
 use Rattle.wl_clients.specs.Agreeing.{Agrees as KeptAgrees}
@@ -32,11 +32,13 @@ use Rattle.wl_desk.specs.Agreeing.{Agrees}
 use Rattle.wl_desk.specs.Beginning.{IsMovable, IsToMove, begun, chosen_by}
 use Rattle.wl_desk.specs.declared.moves.Movable.{Movable}
 use Rattle.wl_desk.specs.Following.{IsUnsettled, Took}
-use Rattle.wl_desk.specs.Midway.{IsMidway, IsTelling, SettlesDown}
+use Rattle.wl_desk.specs.Midway.{IsMidway, IsTelling}
 use Rattle.wl_desk.specs.View.{MarkedDesk}
+use Rattle.wl_desk.specs.Ways.{EndsFrom}
 use Rattle.wl_desk.proofs.Asking.{on-away, on-ended, refused-ends}
 use Rattle.wl_desk.proofs.Begun.{after-end, after-get, after-life, asks-move, forgets}
-use Rattle.wl_desk.proofs.Following.{followed, followed-ended, followed-told, put, put-midway, put-placed, put-stacked, settled-down, to-end, told-midway}
+use Rattle.wl_desk.proofs.Following.{followed, followed-ended, followed-told, put, put-midway, put-placed, put-stacked, to-end, told-midway}
+use Rattle.wl_desk.proofs.Once.{settled-on}
 use Rattle.wl_desk.proofs.Seated.{asks-by, asks-new-pointer}
 use Rattle.wl_desk.proofs.Taking.{desk_with, ended-status, lives-status}
 
@@ -66,7 +68,7 @@ other-away c t f apart is = ap (has_focus c) is ∙ apart
 -- what the pointer has of a client, it leaves, and one that doesn't stand any more isn't moved any more
 pub left-whole : (c : ℕ) (request : PointerAsked) (k : KeptDesk) (seats : List (List ℕ)) (latest : List Latest) (p q : Pointer) (mid new : MarkedDesk) → desk_with k seats latest p ≡ mid → (fed : Fed) (why : Cause)
     → ((e : Desktop) → KeptAgrees k.desk e → fed ≡ status_of (peer_at c e)) → fed ≡ Ended why → q ≡ record p { focus = unless_of c p.focus; move = unless_of c p.move }
-    → LetsGo (desk_with k seats latest q) new → (t : Option Target) (old : MarkedDesk) (d : Desktop) → Took c request old mid d → IsToMove (asked nothing_left_out c d) c d t → IsUnsettled c false old new d
+    → LetsGo (desk_with k seats latest q) new → (t : Option Target) (old : MarkedDesk) (d : Desktop) → Took c request old mid d → IsToMove (asked c d) c d t → IsUnsettled c false old new d
 left-whole c request k seats latest p q mid new view fed why status ended leaves go t old d took to = by (subst (λ (m : MarkedDesk). Took c request old m d) (sym view) took)
   where
     by : Took c request old (desk_with k seats latest p) d → IsUnsettled c false old new d
@@ -75,26 +77,26 @@ left-whole c request k seats latest p q mid new view fed why status ended leaves
         let is : status_in c e ≡ Some why = ended-status c e fed why (status e took.kept) ended in
         let left : q ≡ pointer_without c d.pointer = leaves ∙ forgets c p ∙ ap (pointer_without c) took.pointer in
         followed c false request old (desk_with k seats latest p) new d took (λ yes. absurd (true≢false (sym yes)))
-        (on-ended nothing_left_out c d took.path e took.placed.moved took.leads (ap (λ (s : Option Cause). is_some s) is)) go.kept go.seats go.latest
-        (go.pointer e took.kept ∙ ap (keeping e.standing) left ∙ sym (after-end nothing_left_out c why d took.path e took.leads is)) go.damage
+        (on-ended c d took.path e took.placed.moved took.leads (ap (λ (s : Option Cause). is_some s) is)) go.kept go.seats go.latest
+        (go.pointer e took.kept ∙ ap (keeping e.standing) left ∙ sym (after-end c why d took.path e took.leads is)) go.damage
 
 stays : (c id version : ℕ) (request : PointerAsked) (old mid : MarkedDesk) (d : Desktop) (took : Took c request old mid d) → status_in c took.desktop ≡ None
-    → asked nothing_left_out c d ≡ Some (GetPointer id version) → has_focus c d.pointer.focus ≡ false → IsUnsettled c true old mid d
+    → asked c d ≡ Some (GetPointer id version) → has_focus c d.pointer.focus ≡ false → IsUnsettled c true old mid d
 stays c id version request old mid d took alive asks away =
-    followed c true request old mid mid d took (λ yes. alive) (on-away nothing_left_out c d took.path took.desktop took.placed.moved (inr away) took.leads) refl refl refl
-    (took.pointer ∙ sym (after-get nothing_left_out c id version d took.path took.desktop took.placed.moved asks took.leads alive)) refl
+    followed c true request old mid mid d took (λ yes. alive) (on-away c d took.path took.desktop took.placed.moved (inr away) took.leads) refl refl refl
+    (took.pointer ∙ sym (after-get c id version d took.path took.desktop took.placed.moved asks took.leads alive)) refl
 
 -- no wl_pointer was asked for: a toplevel may begin to be moved
 pub unasked-whole : (c : ℕ) (request : PointerAsked) (t : Option Target) (mid begins new : MarkedDesk) (fed : Fed) → ((e : Desktop) → KeptAgrees mid.desk.kept e → fed ≡ status_of (peer_at c e))
     → ((why : Cause) → fed ≢ Ended why) → ((id : ℕ) → request ≢ NewPointer id) → begins.desk.pointer ≡ begun t mid.desk.pointer → begins.desk.kept ≡ mid.desk.kept
-    → begins.desk.seats ≡ mid.desk.seats → begins.desk.latest ≡ mid.desk.latest → begins.damage ≡ mid.damage → LetsGo begins new → (old : MarkedDesk) (d : Desktop) → Took c request old mid d → IsToMove (asked nothing_left_out c d) c d t
+    → begins.desk.seats ≡ mid.desk.seats → begins.desk.latest ≡ mid.desk.latest → begins.damage ≡ mid.damage → LetsGo begins new → (old : MarkedDesk) (d : Desktop) → Took c request old mid d → IsToMove (asked c d) c d t
     → IsUnsettled c true old new d
 unasked-whole c request t mid begins new fed status lives never begin kept seats latest damage go old d took to =
     let e : Desktop = took.desktop in
     let alive : status_in c e ≡ None = lives-status c e fed (status e took.kept) lives in
     followed c true request old mid new d took (λ yes. alive)
-    (on-away nothing_left_out c d took.path e took.placed.moved
-    (inl (λ id version asks. absurd (never id (asks-new-pointer (asked nothing_left_out c d) request (numbers_in old.desk.kept.clients c) id version took.asks asks)))) took.leads)
+    (on-away c d took.path e took.placed.moved
+    (inl (λ id version asks. absurd (never id (asks-new-pointer (asked c d) request (numbers_in old.desk.kept.clients c) id version took.asks asks)))) took.leads)
     (go.kept ∙ kept) (go.seats ∙ seats) (go.latest ∙ latest)
     (go.pointer e (subst (λ (k : ClientsView). KeptAgrees k e) (sym kept) took.kept)
     ∙ ap (keeping e.standing) (begin ∙ ap (begun t) took.pointer) ∙ sym (after-life c d took.path e t took.leads alive to)) (go.damage ∙ damage)
@@ -103,7 +105,7 @@ unasked-whole c request t mid begins new fed status lives never begin kept seats
 pub asked-whole : (c id : ℕ) (on : Bool) (request : PointerAsked) (mid new : MarkedDesk) (fed : Fed) → ((e : Desktop) → KeptAgrees mid.desk.kept e → fed ≡ status_of (peer_at c e))
     → ((why : Cause) → fed ≢ Ended why) → request ≡ NewPointer id
     → ((old : MarkedDesk) (d : Desktop) (took : Took c (NewPointer id) old mid d) → status_in c took.desktop ≡ None → IsUnsettled c on old new d)
-    → (t : Option Target) (old : MarkedDesk) (d : Desktop) → Took c request old mid d → IsToMove (asked nothing_left_out c d) c d t → IsUnsettled c on old new d
+    → (t : Option Target) (old : MarkedDesk) (d : Desktop) → Took c request old mid d → IsToMove (asked c d) c d t → IsUnsettled c on old new d
 asked-whole c id on request mid new fed status lives is tells t old d took to = by (subst (λ (r : PointerAsked). Took c r old mid d) is took)
   where
     by : Took c (NewPointer id) old mid d → IsUnsettled c on old new d
@@ -113,11 +115,11 @@ asked-whole c id on request mid new fed status lives is tells t old d took to = 
 pub away-whole : (c id : ℕ) (mid : MarkedDesk) → has_focus c mid.desk.pointer.focus ≡ false → (old : MarkedDesk) (d : Desktop) (took : Took c (NewPointer id) old mid d)
     → status_in c took.desktop ≡ None → IsUnsettled c true old mid d
 away-whole c id mid away old d took alive =
-    by (asks-by (asked nothing_left_out c d) (NewPointer id) (numbers_in old.desk.kept.clients c) id took.asks refl)
+    by (asks-by (asked c d) (NewPointer id) (numbers_in old.desk.kept.clients c) id took.asks refl)
   where
-    by : ((asked nothing_left_out c d ≡ None) ⊎ ((version : ℕ) × (asked nothing_left_out c d ≡ Some (GetPointer id version)))) → IsUnsettled c true old mid d
+    by : ((asked c d ≡ None) ⊎ ((version : ℕ) × (asked c d ≡ Some (GetPointer id version)))) → IsUnsettled c true old mid d
     by (inl none) =
-        absurd (true≢false (sym (refused-ends nothing_left_out c d took.path took.desktop none took.leads) ∙ ap (λ (s : Option Cause). is_some s) alive))
+        absurd (true≢false (sym (refused-ends c d took.path took.desktop none took.leads) ∙ ap (λ (s : Option Cause). is_some s) alive))
     by (inr get) = stays c id get.0 (NewPointer id) old mid d took alive get.1 (ap (λ (p : Pointer). has_focus c p.focus) (sym took.pointer) ∙ away)
 
 -- ---- it has
@@ -160,16 +162,18 @@ module _ (c id : ℕ) (mid : MarkedDesk) (t : Target) (own : t.client ≡ c) (ha
 
 -- ---- and then the focus is settled
 
-pub served-whole : (c : ℕ) (on touches : Bool) (request : PointerAsked) (movable : Option Movable) (t : Option Target) (old mid next new : MarkedDesk)
+pub served-whole : (c : ℕ) (on touches : Bool) (request : PointerAsked) (movable : Option Movable) (t : Option Target) (old mid next once new : MarkedDesk)
     → ((d : Desktop) → Agrees old.desk d → IsMovable (numbers_in old.desk.kept.clients c) c d movable) → t ≡ chosen_by movable request
     → ((d : Desktop) → Agrees old.desk d → Took c request old mid d)
-    → ((was : MarkedDesk) (d : Desktop) → Took c request was mid d → IsToMove (asked nothing_left_out c d) c d t → IsUnsettled c on was next d)
+    → ((was : MarkedDesk) (d : Desktop) → Took c request was mid d → IsToMove (asked c d) c d t → IsUnsettled c on was next d)
     → (touches ≡ false → (d : Desktop) → Agrees old.desk d → ChangesNoWindow c (unpointed d))
-    → ((m : Midstep) → IsMidway next.desk m → m.struck ≡ [] → (on ≡ true → touches ≡ false → IsSettled m.desktop) → SettlesDown next new m) → (d : Desktop) → Agrees old.desk d → Led (Agrees new.desk) (Message c) old.damage new.damage d
-served-whole c on touches request movable t old mid next new may is took follows untouched settles d a =
+    → ((m : Midstep) → IsMidway next.desk m → (on ≡ true → touches ≡ false → IsSettled m.desktop) → (n : Midstep) × Settles m n × IsMidway once.desk n)
+    → once.damage ≡ next.damage → EndsFrom once new → (d : Desktop) → Agrees old.desk d → Led (Agrees new.desk) (Message c) old.damage new.damage d
+served-whole c on touches request movable t old mid next once new may is took follows untouched settles same ends d a =
     let it = took d a in
-    let to : IsToMove (asked nothing_left_out c d) c d t =
-    subst (λ (x : Option Target). IsToMove (asked nothing_left_out c d) c d x) (sym is)
-    (asks-move (numbers_in old.desk.kept.clients c) (asked nothing_left_out c d) c d request movable it.asks (may d a)) in
+    let to : IsToMove (asked c d) c d t =
+    subst (λ (x : Option Target). IsToMove (asked c d) c d x) (sym is)
+    (asks-move (numbers_in old.desk.kept.clients c) (asked c d) c d request movable it.asks (may d a)) in
     let u = follows old d it to in
-    settled-down c on d old next new u (settles (unstruck u.start) u.midway refl (λ yes none. u.unmoved yes (untouched none d a)))
+    let turn = settles (unstruck u.start) u.midway (λ yes none. u.unmoved yes (untouched none d a)) in
+    settled-on c on d old next once new u turn.0 turn.1 turn.2 same (ends turn.0 turn.2 (settles-settled (unstruck u.start) turn.0 turn.1))

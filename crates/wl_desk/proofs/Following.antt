@@ -11,7 +11,6 @@ use Rattle.spec_desktop.specs.Changing.{drawing, has_focus}
 use Rattle.spec_desktop.specs.Demand.{GetPointer}
 use Rattle.spec_desktop.specs.Desktop.{Desktop, Resident, status_in, unpointed}
 use Rattle.spec_desktop.specs.Happenings.{Leads, Message}
-use Rattle.spec_desktop.specs.LeftOut.{nothing_left_out}
 use Rattle.spec_desktop.specs.Marks.{AreDistinct}
 use Rattle.spec_desktop.specs.Moments.{marks_at_least_through, marks_at_most_through}
 use Rattle.spec_desktop.specs.Replies.{entered_at, focus_window}
@@ -23,51 +22,30 @@ use Rattle.law_desktop.proofs.Runs.Settled.{same-windows}
 use Rattle.law_desktop.specs.Pointed.Apart.{SettlesOn}
 use Rattle.law_desktop.specs.Pointed.Entering.{TellsNew, new_entered}
 use Rattle.law_desktop.specs.Pointed.Pointed.{asked, pointed, pointer_after, put_back}
-use Rattle.law_desktop.proofs.PointerAside.Marking.{last-marks-nothing, marks-apart}
-use Rattle.law_desktop.proofs.PointerAside.Rounds.{rounds-settle}
+use Rattle.law_desktop.proofs.PointerAside.Marking.{marks-apart}
 use Rattle.law_desktop.proofs.PointerAside.Unshown.{new-pointer-shows-nothing}
 use Rattle.wl_requests.specs.declared.pointer_asked.PointerAsked.{PointerAsked}
 use Rattle.wl_requests.specs.declared.pointer_asked.PointerAsked.TheVariants.{NewPointer}
 use Rattle.wl_clients.specs.Agreeing.{Agrees as KeptAgrees}
 use Rattle.wl_clients.specs.Agreement.{numbers_in}
-use Rattle.wl_clients.specs.Leading.{Led}
 use Rattle.wl_clients.specs.Marking.{MarksThrough}
 use Rattle.wl_clients.specs.Touching.{ChangesNoWindow}
 use Rattle.wl_clients.specs.declared.grabs.Latest.{Latest}
 use Rattle.wl_clients.specs.View.{DeskView as ClientsView}
 use Rattle.wl_clients.proofs.Agreed.{agrees-apart}
 use Rattle.wl_clients.proofs.Midway.{mid_begins_and_ends}
-use Rattle.wl_desk.specs.Agreeing.{Agrees, AreLatest, AreSeats, IsPlaced}
+use Rattle.wl_desk.specs.Agreeing.{AreLatest, AreSeats, IsPlaced}
 use Rattle.wl_desk.specs.Following.{IsUnsettled, Took}
-use Rattle.wl_desk.specs.Midway.{IsMidway, IsTelling, SettlesDown}
+use Rattle.wl_desk.specs.Midway.{IsMidway, IsTelling}
 use Rattle.wl_desk.specs.View.{DeskView, MarkedDesk}
 use Rattle.wl_desk.proofs.Asking.{on-queued, on-refused, refused-ends, told-marks, told-still}
 use Rattle.wl_desk.proofs.Begun.{after-get, after-settled, back-placed}
 use Rattle.wl_desk.proofs.Focused.{focus-placed, focus-stacked, settled-still}
-use Rattle.wl_desk.proofs.Leading.{kept-aside, midway-agrees}
+use Rattle.wl_desk.proofs.Leading.{kept-aside}
 use Rattle.wl_desk.proofs.Onward.{last-at, marks-as, marks-then, marks-to, none-more}
 use Rattle.wl_desk.proofs.Placed.{placed-as}
 use Rattle.wl_desk.proofs.Seated.{asks-by}
 use Rattle.wl_desk.proofs.Tells.{tells-shows}
-
--- ---- the rounds that follow
-
--- from where the focus isn't settled the rounds lead on to where it is
-pub settled-down : (c : ℕ) (lives : Bool) (d : Desktop) (old mid new : MarkedDesk) (u : IsUnsettled c lives old mid d) → SettlesDown mid new (unstruck u.start)
-    → Led (Agrees new.desk) (Message c) old.damage new.damage d
-settled-down c lives d old mid new u down =
-    let start : Desktop = u.start in
-    let settles = rounds-settle down.count 33 (unstruck start) down.mid down.last down.rounds down.few down.each down.settles down.over in
-    let later : List Desktop = down.rounds ++ down.last.desktop ∷ [] in
-    record {
-      path = u.path ++ later;
-      desktop = down.last.desktop;
-      leads = u.leads later down.last.desktop settles.0;
-      agrees = midway-agrees new.desk down.last down.midway down.over settles.1;
-      marks = marks-then d start u.path later old.damage mid.damage new.damage u.sides u.last u.marks
-          (marks-as start start later down.rounds mid.damage new.damage
-          (λ x y. last-marks-nothing down.count (unstruck start) down.mid down.last down.rounds x y down.distinct down.each down.settles) down.marks);
-    }
 
 -- ---- the pointer is put back
 
@@ -86,7 +64,7 @@ midway-at v e p kept seats latest is placed =
     }
 
 pub from-aside : (c : ℕ) (lives : Bool) (p : Desktop → Pointer) (d e : Desktop) (aside : List Desktop) (old new : MarkedDesk)
-    → SettlesOn (λ a. pointed (p a) a) (Leads nothing_left_out (Message c) d) aside e → AreDistinct (all_windows e) → MarksThrough (unpointed d) aside old.damage new.damage
+    → SettlesOn (λ a. pointed (p a) a) (Leads (Message c) d) aside e → AreDistinct (all_windows e) → MarksThrough (unpointed d) aside old.damage new.damage
     → IsAsLarge old.damage new.damage → IsMidway new.desk (unstruck (pointed (p e) e))
     → (lives ≡ true → ChangesNoWindow c (unpointed d) → IsSettled (pointed (p e) e)) → IsUnsettled c lives old new d
 from-aside c lives p d e aside old new on apart marks sides midway unmoved =
@@ -97,7 +75,7 @@ from-aside c lives p d e aside old new on apart marks sides midway unmoved =
       start = start;
       last = last-at d start before;
       leads = λ later last settles.
-          subst (λ (way : List Desktop). Leads nothing_left_out (Message c) d way last) (sym (append_assoc before (start ∷ []) later)) (on.2 later last settles);
+          subst (λ (way : List Desktop). Leads (Message c) d way last) (sym (append_assoc before (start ∷ []) later)) (on.2 later last settles);
       midway = midway;
       unmoved = unmoved;
       sides = sides;
@@ -117,16 +95,16 @@ larger old mid new first next = record { width = next.width ∙ first.width; hei
 -- ---- nobody is told
 
 pub followed : (c : ℕ) (lives : Bool) (request : PointerAsked) (old mid new : MarkedDesk) (d : Desktop) (took : Took c request old mid d)
-    → (lives ≡ true → status_in c took.desktop ≡ None) → SettlesOn (put_back nothing_left_out c d) (ServesThrough nothing_left_out c d) took.path took.desktop → new.desk.kept ≡ mid.desk.kept → new.desk.seats ≡ mid.desk.seats
-    → new.desk.latest ≡ mid.desk.latest → new.desk.pointer ≡ pointer_after nothing_left_out c d took.desktop → new.damage ≡ mid.damage → IsUnsettled c lives old new d
+    → (lives ≡ true → status_in c took.desktop ≡ None) → SettlesOn (put_back c d) (ServesThrough c d) took.path took.desktop → new.desk.kept ≡ mid.desk.kept → new.desk.seats ≡ mid.desk.seats
+    → new.desk.latest ≡ mid.desk.latest → new.desk.pointer ≡ pointer_after c d took.desktop → new.damage ≡ mid.damage → IsUnsettled c lives old new d
 followed c lives request old mid new d took alive on kept seats latest pointer damage =
     let e : Desktop = took.desktop in
-    from-aside c lives (pointer_after nothing_left_out c d) d e took.path old new on (agrees-apart mid.desk.kept e took.kept)
+    from-aside c lives (pointer_after c d) d e took.path old new on (agrees-apart mid.desk.kept e took.kept)
     (marks-to (unpointed d) took.path old.damage mid.damage new.damage damage took.marks)
     (subst (λ (v : Damaged). IsAsLarge old.damage v) (sym damage) took.sides)
-    (midway-at new.desk e (pointer_after nothing_left_out c d e) (subst (λ (k : ClientsView). KeptAgrees k e) (sym kept) took.kept)
+    (midway-at new.desk e (pointer_after c d e) (subst (λ (k : ClientsView). KeptAgrees k e) (sym kept) took.kept)
     (subst (λ (s : List (List ℕ)). AreSeats s e) (sym seats) took.seats)
-    (subst (λ (l : List Latest). AreLatest l (unstruck e)) (sym latest) took.latest) pointer (back-placed nothing_left_out c d e took.placed))
+    (subst (λ (l : List Latest). AreLatest l (unstruck e)) (sym latest) took.latest) pointer (back-placed c d e took.placed))
     (λ yes untouched. after-settled c d e (alive yes) took.settled (untouched took.path e took.leads (alive yes)))
 
 -- ---- a new wl_pointer is told
@@ -136,29 +114,29 @@ module _ (c id : ℕ) (old mid : MarkedDesk) (d : Desktop) (took : Took c (NewPo
   abbrev pub put : Desktop
   put = pointed d.pointer took.desktop
 
-  get : (version : ℕ) × (asked nothing_left_out c d ≡ Some (GetPointer id version))
-  get = by (asks-by (asked nothing_left_out c d) (NewPointer id) (numbers_in old.desk.kept.clients c) id took.asks refl)
+  get : (version : ℕ) × (asked c d ≡ Some (GetPointer id version))
+  get = by (asks-by (asked c d) (NewPointer id) (numbers_in old.desk.kept.clients c) id took.asks refl)
     where
-      by : ((asked nothing_left_out c d ≡ None) ⊎ ((version : ℕ) × (asked nothing_left_out c d ≡ Some (GetPointer id version)))) → (version : ℕ) × (asked nothing_left_out c d ≡ Some (GetPointer id version))
+      by : ((asked c d ≡ None) ⊎ ((version : ℕ) × (asked c d ≡ Some (GetPointer id version)))) → (version : ℕ) × (asked c d ≡ Some (GetPointer id version))
       by (inl none) =
-          absurd (true≢false (sym (refused-ends nothing_left_out c d took.path took.desktop none took.leads) ∙ ap (λ (s : Option Cause). is_some s) alive))
+          absurd (true≢false (sym (refused-ends c d took.path took.desktop none took.leads) ∙ ap (λ (s : Option Cause). is_some s) alive))
       by (inr is) = is
 
   has-focus : has_focus c d.pointer.focus ≡ true
   has-focus = ap (has_focus c) has ∙ eq-eqb t.client c own
 
-  put-is : put_back nothing_left_out c d took.desktop ≡ put
+  put-is : put_back c d took.desktop ≡ put
   put-is =
-      ap (λ (p : Pointer). pointed p took.desktop) (after-get nothing_left_out c id get.0 d took.path took.desktop took.placed.moved get.1 took.leads alive)
+      ap (λ (p : Pointer). pointed p took.desktop) (after-get c id get.0 d took.path took.desktop took.placed.moved get.1 took.leads alive)
 
   pub put-midway : IsMidway mid.desk (unstruck put)
   put-midway =
       midway-at mid.desk took.desktop d.pointer took.kept took.seats took.latest took.pointer
-      (subst (λ (x : Desktop). IsPlaced x) put-is (back-placed nothing_left_out c d took.desktop took.placed))
+      (subst (λ (x : Desktop). IsPlaced x) put-is (back-placed c d took.desktop took.placed))
 
   pub put-stacked : is_stacked t (all_windows put) ≡ true
   put-stacked =
-      subst (λ (ws : List Window). is_stacked t ws ≡ true) (sym (new-pointer-shows-nothing nothing_left_out c id get.0 (unpointed d) took.path took.desktop refl get.1 took.leads alive))
+      subst (λ (ws : List Window). is_stacked t ws ≡ true) (sym (new-pointer-shows-nothing c id get.0 (unpointed d) took.path took.desktop refl get.1 took.leads alive))
       (focus-stacked d.pointer (all_windows d) t took.settled has)
 
   pub put-placed : put.pointer.place ≢ None
@@ -167,7 +145,7 @@ module _ (c id : ℕ) (old mid : MarkedDesk) (d : Desktop) (took : Took c (NewPo
   module _ (n : Midstep)
       (tells : Tells (drawing true) (λ (r : Resident). entered_at id r.peer.serial put.pointer.place (focus_window (Some t) (all_windows put))) t.client (unstruck put) n)
       (told : MarkedDesk) (telling : IsTelling told.desk n) (pointer : told.desk.pointer ≡ mid.desk.pointer) (damage : told.damage ≡ mid.damage) where
-    tells-new : TellsNew id c (put_back nothing_left_out c d took.desktop) n
+    tells-new : TellsNew id c (put_back c d took.desktop) n
     tells-new =
         subst (λ (x : Desktop). TellsNew id c x n) (sym put-is)
         (subst (λ (k : ℕ). Tells (drawing true) (new_entered id put) k (unstruck put) n) own
@@ -192,7 +170,7 @@ module _ (c id : ℕ) (old mid : MarkedDesk) (d : Desktop) (took : Took c (NewPo
     first =
         marks-to d (n.desktop ∷ []) old.damage mid.damage told.damage damage
         (marks-as d (unpointed d) (n.desktop ∷ []) took.path old.damage mid.damage
-        (told-marks nothing_left_out c id get.0 d took.path took.desktop n took.placed.moved get.1 has-focus took.leads tells-new (agrees-apart mid.desk.kept took.desktop took.kept)) took.marks)
+        (told-marks c id get.0 d took.path took.desktop n took.placed.moved get.1 has-focus took.leads tells-new (agrees-apart mid.desk.kept took.desktop took.kept)) took.marks)
 
     sides : IsAsLarge old.damage told.damage
     sides = subst (λ (v : Damaged). IsAsLarge old.damage v) (sym damage) took.sides
@@ -203,7 +181,7 @@ module _ (c id : ℕ) (old mid : MarkedDesk) (d : Desktop) (took : Took c (NewPo
       start = n.desktop;
       last = refl;
       leads = λ later last settles.
-          on-queued nothing_left_out c id get.0 d took.path took.desktop n took.placed.moved get.1 has-focus took.leads tells-new none later last settles;
+          on-queued c id get.0 d took.path took.desktop n took.placed.moved get.1 has-focus took.leads tells-new none later last settles;
       midway = subst (λ (ss : List Strike). IsMidway told.desk (record { desktop = n.desktop; struck = ss })) none told-midway;
       marks = first;
       sides = sides;
@@ -222,7 +200,7 @@ module _ (c id : ℕ) (old mid : MarkedDesk) (d : Desktop) (took : Took c (NewPo
       start = ended_by s n.desktop;
       last = refl;
       leads = λ later last settles.
-          on-refused nothing_left_out c id get.0 d took.path took.desktop n took.placed.moved get.1 has-focus took.leads tells-new s one later last settles;
+          on-refused c id get.0 d took.path took.desktop n took.placed.moved get.1 has-focus took.leads tells-new s one later last settles;
       midway = midway;
       marks = marks-then d n.desktop (n.desktop ∷ []) (ended_by s n.desktop ∷ []) old.damage told.damage new.damage sides refl first marks;
       sides = larger old.damage told.damage new.damage sides large;

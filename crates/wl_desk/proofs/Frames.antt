@@ -15,7 +15,6 @@ use Rattle.spec_desktop.specs.Changing.{without_callbacks}
 use Rattle.spec_desktop.specs.Desktop.{Desktop, Resident, client_at, status_in, status_of, unpointed, with_client}
 use Rattle.spec_desktop.specs.Happenings.{Happening, Leads, Single}
 use Rattle.spec_desktop.specs.Happens.{TellsFrames, callbacks_due, frames_told}
-use Rattle.spec_desktop.specs.LeftOut.{nothing_left_out}
 use Rattle.spec_desktop.specs.Settling.{Applies, AppliesAll, Midstep, Settles, Strike, Tells, TellsAt, TellsUnless, ended_all, ended_by, is_struck, unstruck}
 use Rattle.spec_desktop.specs.Stacked.{all_windows}
 use Rattle.spec_desktop.specs.Through.{EndsFirstThrough, HappensThrough, SettlesAllThrough}
@@ -118,7 +117,7 @@ all-end (s ∷ ss) d struck c why is =
     let after : Follows (s ∷ ss) d.clients ss (ended_by s d).clients = ended-after s ss d struck in
     all-end ss (ended_by s d) after.sound c why (after.keeps c why is)
 
-pub frame-ended : (time : ℕ) (done : Done) (d : Desktop) (path : List Desktop) (e : Desktop) → d.pointer ≡ first_pointer → HappensThrough nothing_left_out (Tick time) done d path e
+pub frame-ended : (time : ℕ) (done : Done) (d : Desktop) (path : List Desktop) (e : Desktop) → d.pointer ≡ first_pointer → HappensThrough (Tick time) done d path e
     → (c : ℕ) (why : Cause) → status_in c d ≡ Some why → status_in c e ≡ Some why
 frame-ended time done d path e still h c why is =
     let told : Midstep = h.1.0 in
@@ -139,7 +138,7 @@ frame-keeps-seats : (time : ℕ) → KeepsSeats (Single (Tick time) gave.Tick)
 frame-keeps-seats time k = (λ e. absurd (cc), λ e. absurd (cc))
 
 -- where nobody ended in the whole step, nobody did by the frame
-module _ (time : ℕ) (d : Desktop) (aside : List Desktop) (e : Desktop) (leads : Leads nothing_left_out (Single (Tick time) gave.Tick) (unpointed d) aside e) (n : ℕ) (start mid last : Midstep)
+module _ (time : ℕ) (d : Desktop) (aside : List Desktop) (e : Desktop) (leads : Leads (Single (Tick time) gave.Tick) (unpointed d) aside e) (n : ℕ) (start mid last : Midstep)
     (rounds : List Desktop) (each : AreRounds n start rounds mid) (settles : Settles mid last) (none : start.struck ≡ []) (first : StatusesStay e start.desktop)
     (same : StatusesStay d last.desktop) where
   mid-same : (c : ℕ) → status_in c mid.desktop ≡ status_in c d
@@ -196,7 +195,7 @@ frames-lead time d old mid new a led quiet large seats latest pointer settles =
     (latest-stay old.desk.latest (Single (Tick time) gave.Tick) d led.path led.desktop (tick-keeps time) a.latest led.leads)) in
     let down = settles start midway in
     let tick : Happening = Single (Tick time) gave.Tick in
-    let on = frames-apart nothing_left_out time gave.Tick d led.path led.desktop led.leads in (
+    let on = frames-apart time gave.Tick d led.path led.desktop led.leads in (
       leads-on tick (λ e. pointer_left d e) d led.path led.desktop old.damage mid new on large led.marks midway down refl,
       λ same x y wide high.
           let last = leads-to tick (λ e. pointer_left d e) d led.path led.desktop old.damage mid new on large led.marks midway down refl in

@@ -13,7 +13,6 @@ use Rattle.spec_desktop.specs.declared.answers.Done.TheVariants as gave
 use Rattle.spec_desktop.specs.Act.{Act, Button, Connect, Leave, Tick}
 use Rattle.spec_desktop.specs.Desktop.{Desktop, Resident, client_at, resident_of, unpointed, with_client}
 use Rattle.spec_desktop.specs.Happenings.{Happening, Leads, Message, Single, Starve}
-use Rattle.spec_desktop.specs.LeftOut.{nothing_left_out}
 use Rattle.spec_desktop.specs.Settling.{Midstep, Strike, Tells, TellsAt, TellsUnless, ended_at, ended_by, in_order, is_struck, struck_by, unstruck}
 use Rattle.law_desktop.proofs.Runs.Fates.{same-or}
 use Rattle.law_desktop.proofs.Runs.Places.{number-other, number-same}
@@ -38,8 +37,8 @@ abbrev pub KeepsLatest : Happening → Type 0
 KeepsLatest h = IsNoButton h × ((c : ℕ) → h ≢ Single Connect (gave.Connect (Ok c)))
 
 pub latest-stay : (latest : List Latest) (h : Happening) (d : Desktop) (path : List Desktop) (e : Desktop) → KeepsLatest h → AreLatest latest (unstruck d)
-    → Leads nothing_left_out h (unpointed d) path e → AreLatest latest (unstruck e)
-latest-stay latest h d path e keeps are leads c q there lives free = at (serials-stay nothing_left_out h (unpointed d) path e c q keeps.0 leads there lives)
+    → Leads h (unpointed d) path e → AreLatest latest (unstruck e)
+latest-stay latest h d path e keeps are leads c q there lives free = at (serials-stay h (unpointed d) path e c q keeps.0 leads there lives)
   where
     at : HadSerials (unpointed d) c q ⊎ CameWithoutSerials h c q → IsLatest (latest_of latest c) (Some q)
     at (inl had) = latest-as (latest_of latest c) (latest_of latest c) had.0 q refl had.3 had.4 (are c had.0 had.1 had.2 refl)

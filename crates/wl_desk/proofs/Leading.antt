@@ -6,7 +6,6 @@ use Rattle.wl_scene.specs.Marking.{IsAsLarge}
 use Rattle.spec_desktop.specs.Pointer.{Pointer}
 use Rattle.spec_desktop.specs.Desktop.{Desktop, unpointed}
 use Rattle.spec_desktop.specs.Happenings.{Happening, Leads}
-use Rattle.spec_desktop.specs.LeftOut.{nothing_left_out}
 use Rattle.spec_desktop.specs.Marks.{AreDistinct}
 use Rattle.spec_desktop.specs.Moments.{marks_at_least_through, marks_at_most_through}
 use Rattle.spec_desktop.specs.Settling.{Midstep, Strike, unstruck}
@@ -89,11 +88,11 @@ marks-both d aside start rounds path old mid new large first second both x y wid
 
 -- What is led to with the pointer put aside, and then with the pointer put back through these rounds, is led to.
 pub leads-on : (h : Happening) (p : Desktop → Pointer) (d : Desktop) (aside : List Desktop) (e : Desktop) (old : Damaged) (mid new : MarkedDesk)
-    → SettlesOn (λ a. pointed (p a) a) (Leads nothing_left_out h d) aside e → IsAsLarge old mid.damage → MarksThrough (unpointed d) aside old mid.damage
+    → SettlesOn (λ a. pointed (p a) a) (Leads h d) aside e → IsAsLarge old mid.damage → MarksThrough (unpointed d) aside old mid.damage
     → IsMidway mid.desk (unstruck (pointed (p e) e)) → SettlesDown mid new (unstruck (pointed (p e) e)) → raised_by h d ≡ None
     → Led (Agrees new.desk) h old new.damage d
 leads-on h p d aside e old mid new on large marks midway down none =
-    let step = steps-by-rounds nothing_left_out h p d aside e down.rounds down.mid down.last on
+    let step = steps-by-rounds h p d aside e down.rounds down.mid down.last on
     (record { count = down.count; few = down.few; each = down.each; settles = down.settles; over = down.over }) in
     record {
       path = step.0;
@@ -107,7 +106,7 @@ leads-on h p d aside e old mid new on large marks midway down none =
 
 -- It is led to the last of them.
 pub leads-to : (h : Happening) (p : Desktop → Pointer) (d : Desktop) (aside : List Desktop) (e : Desktop) (old : Damaged) (mid new : MarkedDesk)
-    (on : SettlesOn (λ a. pointed (p a) a) (Leads nothing_left_out h d) aside e) (large : IsAsLarge old mid.damage) (marks : MarksThrough (unpointed d) aside old mid.damage)
+    (on : SettlesOn (λ a. pointed (p a) a) (Leads h d) aside e) (large : IsAsLarge old mid.damage) (marks : MarksThrough (unpointed d) aside old mid.damage)
     (midway : IsMidway mid.desk (unstruck (pointed (p e) e))) (down : SettlesDown mid new (unstruck (pointed (p e) e))) (none : raised_by h d ≡ None)
     → (leads-on h p d aside e old mid new on large marks midway down none).desktop ≡ down.last.desktop
 unfolding leads-on

@@ -23,6 +23,7 @@ pub mod Movables
 pub mod Moving
 pub mod Noting
 pub mod Numbers
+pub mod Once
 pub mod Onward
 pub mod OwnChange
 pub mod Placed

@@ -21,7 +21,7 @@ use Rattle.spec_desktop.specs.Pointing.{motion_told}
 use Rattle.spec_desktop.specs.Replies.{focus_window}
 use Rattle.spec_desktop.specs.Settling.{AppliesAll, Midstep, PointerActs, unstruck, with_standing}
 use Rattle.spec_desktop.specs.Stacked.{all_windows}
-use Rattle.law_desktop.proofs.Runs.Settled.{HasFocus, ShowsSame, has-settled, shows-itself, tells-so}
+use Rattle.law_desktop.proofs.Runs.Settled.{HasFocus, ShowsSame, has-settled, shows-itself, tells-so, went-settled}
 use Rattle.law_desktop.specs.Pointed.Pointed.{MovedStands}
 use Rattle.law_desktop.proofs.PointerAside.Rounds.{motions-end}
 use Rattle.law_desktop.proofs.Truth.{and-left, and-right, differ}
@@ -35,7 +35,8 @@ use Rattle.wl_desk.specs.Midway.{IsMidway, IsOfFocus, IsTelling, SettlesDown}
 use Rattle.wl_clients.specs.Raising.{MarksChange}
 use Rattle.wl_desk.specs.Restacking.{HasNumber, first_dragged, first_moved}
 use Rattle.wl_desk.specs.View.{DeskView, MarkedDesk}
-use Rattle.wl_desk.proofs.Calls.{Settles, desk_with}
+use Rattle.wl_desk.specs.Ways.{EndsFrom}
+use Rattle.wl_desk.proofs.Calls.{desk_with}
 use Rattle.wl_desk.proofs.OwnChange.{all, own-leads, path}
 use Rattle.wl_desk.proofs.Placed.{acts-stand}
 use Rattle.wl_desk.proofs.Points.{settled-stacked}
@@ -205,7 +206,7 @@ pub moves : (time : ℕ) (x y : ℤ) (k : KeptDesk) (seats : List (List ℕ)) (l
     → ((ws : List Window) → IsSeen hit stacked gone-along.desk.pointer ws → p2 ≡ record gone-along.desk.pointer { focus = settled gone-along.desk.pointer ws })
     → ((m : Midstep) → IsTelling (record gone-along.desk { pointer = p2 }) m → m.desktop.pointer.place ≢ None → Each (IsOfFocus (all_windows m.desktop)) does
     → (n : Midstep) × AppliesAll (all_windows m.desktop) does m n × IsTelling told.desk n)
-    → told.desk.pointer ≡ p2 → told.damage ≡ gone-along.damage → Settles told new
+    → told.desk.pointer ≡ p2 → told.damage ≡ gone-along.damage → EndsFrom told new
     → LeadsBy (Single (Motion time x y) gave.Motion) (desk_with k seats latest p) new
 moves time x y k seats latest p p1 p2 at drags hit stacked does gone-along told new place goes drag along marks large same seen acts keeps tells stays damage settles d a =
     let v : DeskView = (desk_with k seats latest p).desk in
@@ -237,4 +238,4 @@ moves time x y k seats latest p p1 p2 at drags hit stacked does gone-along told 
     subst (λ (dmg : Damaged). MarksChange None d mid.desktop k.damage dmg) (sym damage)
     (subst (λ (xs : List PointerAction). MarksChange None d (with_standing (first_dragged xs d.standing) start).desktop k.damage gone-along.damage) so
     (marks start telling number)) in
-    motion-leads time x y d v a k.damage told new t.0 told-so midway-told size change (settles t.0 midway-told)
+    motion-leads time x y d v a k.damage told new t.0 told-so midway-told size change (settles t.0 midway-told (went-settled time mid t.0 told-so))

@@ -10,7 +10,6 @@ use Rattle.spec_desktop.specs.Stacking.{Owned, Standing, root_of}
 use Rattle.spec_desktop.specs.Windows.{Window, windows}
 use Rattle.spec_desktop.specs.Desktop.{Desktop}
 use Rattle.spec_desktop.specs.Happenings.{Happening, Leads}
-use Rattle.spec_desktop.specs.LeftOut.{nothing_left_out}
 use Rattle.spec_desktop.specs.Marks.{Applied, at_least, at_most}
 use Rattle.spec_desktop.specs.Moments.{history_of, is_applied_by, marks_at_least_of, marks_at_least_through, marks_at_most_of, marks_at_most_through}
 use Rattle.spec_desktop.specs.Settling.{Midstep}
@@ -89,7 +88,7 @@ module _ (raised : Option (ℕ × ℕ)) (d own : Desktop) (told : Midstep) (show
       (sym (ap (λ (ds : List Desktop). marks_at_most_through all_windows None told.desktop ds x y) all.0.3)
       ∙ (last-marks-nothing down.count told down.mid down.last down.rounds x y down.distinct down.each down.settles).1)
 
-  marked : MarksThroughBy raised d path old new.damage
+  pub marked : MarksThroughBy raised d path old new.damage
   marked i j wide high =
       let later = down.marks i j (subst (λ (n : ℕ). i < n) (sym large.width) wide) (subst (λ (n : ℕ). j < n) (sym large.height) high) in
       let first = change.0 i j wide high in
@@ -105,7 +104,7 @@ module _ (raised : Option (ℕ × ℕ)) (d own : Desktop) (told : Midstep) (show
       )
 
   -- so it leads to the last of them
-  pub own-leads : (h : Happening) → raised ≡ raised_by h d → Leads nothing_left_out h d path down.last.desktop → Led (Agrees new.desk) h old new.damage d
+  pub own-leads : (h : Happening) → raised ≡ raised_by h d → Leads h d path down.last.desktop → Led (Agrees new.desk) h old new.damage d
   own-leads h up leads = record {
     path = path;
     desktop = down.last.desktop;

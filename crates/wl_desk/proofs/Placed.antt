@@ -10,7 +10,6 @@ use Rattle.spec_desktop.specs.declared.answers.Done.{Done}
 use Rattle.spec_desktop.specs.Act.{Tick}
 use Rattle.spec_desktop.specs.Desktop.{Desktop, Resident, client_at, unpointed}
 use Rattle.spec_desktop.specs.Happenings.{Happening, Leads, Single}
-use Rattle.spec_desktop.specs.LeftOut.{nothing_left_out}
 use Rattle.spec_desktop.specs.Settling.{Midstep, PointerActs, Settles, Strike, ended_at, ended_by, pointer_without, unless_of}
 use Rattle.spec_desktop.specs.Stacked.{all_windows}
 use Rattle.law_desktop.specs.Focus.{IsSettled}
@@ -75,25 +74,25 @@ nowhere d = pointed (record { place = None; buttons = []; hold = None; focus = N
 
 -- A step with the pointer put aside, and then put back: nothing is settled where the pointer is nowhere, and what is moved stands.
 stands-back : (h : Happening) (d : Desktop) (put : Desktop → Desktop) (path : List Desktop) (e : Desktop) → MovedStands (nowhere d) → IsSettled (put e)
-    → SettlesOn put (Leads nothing_left_out h (nowhere d)) path e → MovedStands (put e)
+    → SettlesOn put (Leads h (nowhere d)) path e → MovedStands (put e)
 stands-back h d put path e stands still on =
-    moved-stands-on.1 nothing_left_out h (nowhere d) (map put on.0 ++ put e ∷ put e ∷ []) (put e) stands (on.2 (put e ∷ []) (put e) (settled-at-once (put e) still))
+    moved-stands-on.1 h (nowhere d) (map put on.0 ++ put e ∷ put e ∷ []) (put e) stands (on.2 (put e ∷ []) (put e) (settled-at-once (put e) still))
 
 -- the pointer leaves a client that ends
-pub end-placed : (c : ℕ) (h : Happening) (d : Desktop) (path : List Desktop) (e : Desktop) → IsEndOf c h → Leads nothing_left_out h (unpointed d) path e → IsPlaced d
+pub end-placed : (c : ℕ) (h : Happening) (d : Desktop) (path : List Desktop) (e : Desktop) → IsEndOf c h → Leads h (unpointed d) path e → IsPlaced d
     → IsPlaced (pointed (pointer_without c d.pointer) e)
 end-placed c h d path e end leads placed = record {
   nowhere = λ none. ap (unless_of c) (placed.nowhere none);
-  moved = stands-back h d (pointed (pointer_without c (nowhere d).pointer)) path e placed.moved refl (ends-apart nothing_left_out c h (nowhere d) path e end leads);
+  moved = stands-back h d (pointed (pointer_without c (nowhere d).pointer)) path e placed.moved refl (ends-apart c h (nowhere d) path e end leads);
 }
 
 -- or those that end where a frame is shown
-pub frame-placed : (time : ℕ) (done : Done) (d : Desktop) (path : List Desktop) (e : Desktop) → Leads nothing_left_out (Single (Tick time) done) (unpointed d) path e → IsPlaced d
+pub frame-placed : (time : ℕ) (done : Done) (d : Desktop) (path : List Desktop) (e : Desktop) → Leads (Single (Tick time) done) (unpointed d) path e → IsPlaced d
     → IsPlaced (pointed (pointer_left d e) e)
 frame-placed time done d path e leads placed = record {
   nowhere = λ none. ap (unless_ended d e) (placed.nowhere none);
   moved = stands-back (Single (Tick time) done) d (λ x. pointed (pointer_left (nowhere d) x) x) path e placed.moved refl
-      (frames-apart nothing_left_out time done (nowhere d) path e leads);
+      (frames-apart time done (nowhere d) path e leads);
 }
 
 -- ---- after a message

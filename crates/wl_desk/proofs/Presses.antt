@@ -1,7 +1,7 @@
 -- A button is pressed or released: a press raises what it hits, the focus is told, and then it is settled.
 use Rattle.std.proofs.Common.{◌≡◌, ℕ, List, [], ◌∷◌, ◌++◌, Bool, true, false, Option, Some, None, refl, ap, ap₂, subst, sym, ◌∙◌}
-use Rattle.std.specs.Prelude.{◌==◌, ◌||◌, filter, if◌then◌else◌, pos}
-use Rattle.wl_paint.specs.Damage.{Damaged, has}
+use Rattle.std.specs.Prelude.{◌==◌, filter, if◌then◌else◌}
+use Rattle.wl_paint.specs.Damage.{Damaged}
 use Rattle.wl_scene.specs.Marking.{IsAsLarge}
 use Rattle.spec_desktop.specs.Pointer.{Pointer, Target, hit_now, is_down, is_press, without_button}
 use Rattle.spec_desktop.specs.PointerActions.{PointerAction, Dismiss, Press, Release, Settle, actions, button_of, dismiss_of, raise_of}
@@ -12,23 +12,19 @@ use Rattle.spec_desktop.specs.declared.answers.Done.TheVariants as gave
 use Rattle.spec_desktop.specs.Act.{Button}
 use Rattle.spec_desktop.specs.Changing.{grab_holder, kept_move}
 use Rattle.spec_desktop.specs.Desktop.{Desktop, unpointed}
-use Rattle.spec_desktop.specs.Happenings.{Leads, Single}
+use Rattle.spec_desktop.specs.Happenings.{Happening, Leads, Single}
 use Rattle.spec_desktop.specs.Happens.{PressesThen, ReleasesThen, hold_from, released_to, with_press, with_release}
-use Rattle.spec_desktop.specs.LeftOut.{nothing_left_out}
 use Rattle.spec_desktop.specs.Marks.{AreDistinct}
-use Rattle.spec_desktop.specs.Moments.{marks_at_most_of}
 use Rattle.spec_desktop.specs.Pointing.{button_told, has_pointers}
 use Rattle.spec_desktop.specs.Replies.{popups_done}
-use Rattle.spec_desktop.specs.Settling.{AppliesAll, Midstep, PointerActs, noted_if, number_of, unstruck, with_standing, without_grabs}
+use Rattle.spec_desktop.specs.Settling.{AppliesAll, Midstep, PointerActs, Settles, noted_if, number_of, unstruck, with_standing, without_grabs}
 use Rattle.spec_desktop.specs.Stacked.{all_windows}
 use Rattle.spec_desktop.specs.Through.{ending_through, raised_from, raised_if}
-use Rattle.law_desktop.proofs.Runs.Settled.{ShowsSame, shows-itself}
+use Rattle.law_desktop.proofs.Runs.Settled.{ShowsSame, has-settled, settles-settled, shows-itself, shows-on}
 use Rattle.law_desktop.specs.Pointed.Pointed.{MovedStands}
-use Rattle.law_desktop.proofs.PointerAside.Rounds.{buttons-end}
 use Rattle.law_desktop.proofs.Lists.Each.{Each}
 use Rattle.wl_clients.specs.declared.grabs.Latest.{Latest}
-use Rattle.wl_clients.specs.Leading.{raised_by}
-use Rattle.wl_clients.specs.Marking.{MarksThroughBy}
+use Rattle.wl_clients.specs.Leading.{Led, raised_by}
 use Rattle.wl_clients.specs.Midway.{IsMid}
 use Rattle.wl_clients.specs.Releasing.{MarksJust}
 use Rattle.wl_clients.specs.View.{MarkedDesk as KeptDesk}
@@ -41,8 +37,10 @@ use Rattle.wl_desk.specs.Releasing.{Releases, released_by}
 use Rattle.wl_clients.specs.Raising.{MarksChange, moved_up, raised_to}
 use Rattle.wl_desk.specs.Restacking.{HasNumber}
 use Rattle.wl_desk.specs.View.{DeskView, MarkedDesk}
+use Rattle.wl_desk.specs.Ways.{EndsFrom, LeadsOnceEnded}
 use Rattle.wl_desk.proofs.Applying.{noted-owned}
-use Rattle.wl_desk.proofs.Calls.{Settles, desk_with, large-on}
+use Rattle.wl_desk.proofs.Calls.{desk_with, large-on}
+use Rattle.wl_desk.proofs.Once.{ends-settled}
 use Rattle.wl_desk.proofs.OwnChange.{all, own-leads, path}
 use Rattle.wl_desk.proofs.Placed.{acts-stand}
 use Rattle.wl_desk.proofs.Released.{dismissed-so}
@@ -103,50 +101,46 @@ button-midway v d old n placed telling pointer place focus moved same =
 
 -- ---- one that doesn't count
 
-or-none : (b : Bool) → b ≡ false → (b || false) ≡ false
-or-none true e = e
-or-none false e = refl
-
-or-first : (a b : Bool) → a ≡ true → (a || b) ≡ true
-or-first true b e = refl
-or-first false b e = absurd (cc)
-
-once-marks : (raised : Option (ℕ × ℕ)) (d : Desktop) (old : Damaged) → AreDistinct (all_windows d) → MarksThroughBy raised d (d ∷ []) old old
-once-marks raised d old apart x y wide high = (
-  λ none. (none, or-none _ (still-marks d (pos x) (pos y) apart).0),
-  λ some. or-first (has old x y) (marks_at_most_of all_windows d d raised (pos x) (pos y) || false) some,
-)
-
-at-once : (d : Desktop) → ending_through (d ∷ []) d (unstruck d)
-at-once d = ([], refl, (refl, refl))
-
 apart-now : (k : KeptDesk) (seats : List (List ℕ)) (latest : List Latest) (p : Pointer) (d : Desktop) → Agrees (desk_with k seats latest p).desk d → AreDistinct (all_windows d)
 apart-now k seats latest p d a =
     telling-apart (desk_with k seats latest p).desk (unstruck (record d { pointer = d.pointer })) (begins-telling k seats latest p p d.pointer d a (ap (λ (r : Pointer). r.place) a.pointer))
 
+-- nothing is done, and nobody is to end
+module _ (k : KeptDesk) (seats : List (List ℕ)) (latest : List Latest) (p : Pointer) (new : MarkedDesk) (ends : EndsFrom (desk_with k seats latest p) new) (d : Desktop)
+    (a : Agrees (desk_with k seats latest p).desk d) where
+  still-midway : IsMidway (desk_with k seats latest p).desk (unstruck d)
+  still-midway = record { telling = begins-telling k seats latest p p d.pointer d a (ap (λ (r : Pointer). r.place) a.pointer); pointer = a.pointer; placed = a.placed }
+
+  still-down : SettlesDown (desk_with k seats latest p) new (unstruck d)
+  still-down = ends (unstruck d) still-midway a.settled
+
+  still-change : MarksChange None d d k.damage k.damage
+  still-change = change-none None d k.damage (apart-now k seats latest p d a)
+
+  abbrev still_way : List Desktop
+  still_way = path None d d (unstruck d) (shows-itself d d refl) k.damage (desk_with k seats latest p) new (record { width = refl; height = refl }) still-change still-midway still-down
+
+  -- what leads no further leads to where the ends that follow do
+  pub still-leads : (h : Happening) → None ≡ raised_by h d → ((way : List Desktop) (e : Desktop) → ending_through way e (unstruck d) → Leads h d way e) → Led (Agrees new.desk) h k.damage new.damage d
+  still-leads h none leads =
+      own-leads None d d (unstruck d) (shows-itself d d refl) k.damage (desk_with k seats latest p) new (record { width = refl; height = refl }) still-change still-midway still-down h none
+      (leads still_way still-down.last.desktop
+      (ends-settled (unstruck d) still_way still-down.last.desktop a.settled
+      (all None d d (unstruck d) (shows-itself d d refl) k.damage (desk_with k seats latest p) new (record { width = refl; height = refl }) still-change still-midway still-down).0))
+
 pub presses-not : (time button : ℕ) (k : KeptDesk) (seats : List (List ℕ)) (latest : List Latest) (p : Pointer) → is_press button p.buttons ≡ false
-    → LeadsBy (Single (Button time button true) gave.Button) (desk_with k seats latest p) (desk_with k seats latest p)
-presses-not time button k seats latest p not d a =
+    → LeadsOnceEnded (Single (Button time button true) gave.Button) (desk_with k seats latest p) (desk_with k seats latest p)
+presses-not time button k seats latest p not new ends d a =
     let idle : is_press button d.pointer.buttons ≡ false = sym (ap (λ (r : Pointer). is_press button r.buttons) a.pointer) ∙ not in
-    record {
-      path = d ∷ [];
-      desktop = d;
-      leads = (refl, subst (λ (b : Bool). PressesThen b time button d (ending_through (d ∷ []) d)) (sym idle) (at-once d));
-      agrees = a;
-      marks = once-marks (raised_by (Single (Button time button true) gave.Button) d) d k.damage (apart-now k seats latest p d a);
-    }
+    still-leads k seats latest p new ends d a (Single (Button time button true) gave.Button) (ap (λ (b : Bool). raised_if b d) (sym idle))
+    (λ way e over. (refl, subst (λ (b : Bool). PressesThen b time button d (ending_through way e)) (sym idle) over))
 
 pub releases-not : (time button : ℕ) (k : KeptDesk) (seats : List (List ℕ)) (latest : List Latest) (p : Pointer) → is_down button p.buttons ≡ false
-    → LeadsBy (Single (Button time button false) gave.Button) (desk_with k seats latest p) (desk_with k seats latest p)
-releases-not time button k seats latest p not d a =
+    → LeadsOnceEnded (Single (Button time button false) gave.Button) (desk_with k seats latest p) (desk_with k seats latest p)
+releases-not time button k seats latest p not new ends d a =
     let idle : is_down button d.pointer.buttons ≡ false = sym (ap (λ (r : Pointer). is_down button r.buttons) a.pointer) ∙ not in
-    record {
-      path = d ∷ [];
-      desktop = d;
-      leads = (refl, subst (λ (b : Bool). ReleasesThen b time button d (ending_through (d ∷ []) d)) (sym idle) (at-once d));
-      agrees = a;
-      marks = once-marks (raised_by (Single (Button time button false) gave.Button) d) d k.damage (apart-now k seats latest p d a);
-    }
+    still-leads k seats latest p new ends d a (Single (Button time button false) gave.Button) refl
+    (λ way e over. (refl, subst (λ (b : Bool). ReleasesThen b time button d (ending_through way e)) (sym idle) over))
 
 -- ---- a press
 
@@ -234,7 +228,7 @@ module _ (time button : ℕ) (d : Desktop) (counts : is_press button d.pointer.b
       (subst (λ (t : Option Target). Releases (released_by holder t) (with_standing (raised_to t d.standing) pressed) r) (sym hit) releases) told)
 
   pub press-leads : (n : Midstep) (later : List Desktop) (e : Desktop) → PointerActs (Press time button (grab_holder d)) pressed n
-      → ((settled : Midstep) × PointerActs Settle n settled × ending_through later e settled) → Leads nothing_left_out (Single (Button time button true) gave.Button) d later e
+      → ((settled : Midstep) × PointerActs Settle n settled × ending_through later e settled) → Leads (Single (Button time button true) gave.Button) d later e
   press-leads n later e acts ends =
       (refl, subst (λ (b : Bool). PressesThen b time button d (ending_through later e)) (sym counts) (n, acts, ends.0, ends.1, ends.2))
 
@@ -245,7 +239,7 @@ module _ (time button : ℕ) (d : Desktop) (counts : is_press button d.pointer.b
       ∙ ap (λ (b : Bool). raised_if b d) (sym counts)
 
 pub presses : (time button : ℕ) (k : KeptDesk) (seats : List (List ℕ)) (latest : List Latest) (p p1 q : Pointer) (top : Option Target) (holder serial : Option ℕ)
-    (does : List PointerAction) (raised released told new : MarkedDesk) → is_press button p.buttons ≡ true
+    (does : List PointerAction) (raised released told once new : MarkedDesk) → is_press button p.buttons ≡ true
     → ((m : Midstep) → IsTelling (desk_with k seats latest p).desk m → toplevel_of (hit_now m.desktop.pointer.place (all_windows m.desktop)) ≡ top)
     → HasNumber (desk_with k seats latest p).desk top
     → ((d : Desktop) → Agrees (desk_with k seats latest p).desk d → serial ≡ hold_from d.pointer.buttons d.pointer d)
@@ -262,10 +256,11 @@ pub presses : (time button : ℕ) (k : KeptDesk) (seats : List (List ℕ)) (late
     → IsAsLarge raised.damage released.damage → released.desk.pointer ≡ raised.desk.pointer
     → ((m : Midstep) → IsTelling released.desk m → Each (IsTellable m.desktop.pointer.place (all_windows m.desktop)) does
     → (n : Midstep) × AppliesAll (all_windows m.desktop) (filter is_told does) m n × IsTelling told.desk n)
-    → told.desk.pointer ≡ released.desk.pointer → told.damage ≡ released.damage → Settles told new
+    → told.desk.pointer ≡ released.desk.pointer → told.damage ≡ released.damage
+    → ((m : Midstep) → IsMidway told.desk m → (n : Midstep) × Settles m n × IsMidway once.desk n) → once.damage ≡ told.damage → EndsFrom once new
     → LeadsBy (Single (Button time button true) gave.Button) (desk_with k seats latest p) new
-presses time button k seats latest p p1 q top holder serial does raised released told new counts hits number holds grabs acts pressing begun raises marks large same releases as-large goes
-    tells stays damage settles d a =
+presses time button k seats latest p p1 q top holder serial does raised released told once new counts hits number holds grabs acts pressing begun raises marks large same releases as-large goes
+    tells stays damage settles quiet ends d a =
     let ws : List Window = all_windows d in
     let w : Option Window = hit_now d.pointer.place ws in
     let focus : Option Target = d.pointer.focus in
@@ -282,8 +277,8 @@ presses time button k seats latest p p1 q top holder serial does raised released
     let gone = releases up (raises start telling known) in
     let r : Midstep = gone.0 in
     let kept : r.desktop.pointer ≡ start.desktop.pointer = releases-pointer (released_by holder top) up r gone.1 in
-    let change : MarksChange (moved_up top d.standing) d r.desktop k.damage told.damage =
-    subst (λ (dmg : Damaged). MarksChange (moved_up top d.standing) d r.desktop k.damage dmg) (sym damage)
+    let change : MarksChange (moved_up top d.standing) d r.desktop k.damage once.damage =
+    subst (λ (dmg : Damaged). MarksChange (moved_up top d.standing) d r.desktop k.damage dmg) (sym (quiet ∙ damage))
     (released-change still-marks (unpointed d) (unpointed r.desktop) top k.damage raised.damage released.damage telling.kept.agrees.ordered telling.kept.agrees.matches.mapped
     (dismissed-so (released_by holder top) up r gone.1) large (marks start telling known) gone.3) in
     let done : does ≡ raise_of w ++ dismiss_of holder w ++ button_of time button true focus =
@@ -301,14 +296,20 @@ presses time button k seats latest p p1 q top holder serial does raised released
     let midway : IsMidway told.desk n =
     button-midway told.desk d start n a.placed t.2 (stays ∙ goes ∙ same ∙ first) refl refl
     (acts-stand (Press time button (grab_holder d)) start n acted a.placed.moved) (still.1 ∙ kept) in
-    let down : SettlesDown told new n = settles n midway in
-    let size : IsAsLarge k.damage told.damage =
-    subst (λ (dmg : Damaged). IsAsLarge k.damage dmg) (sym damage) (large-on k.damage raised.damage released.damage large as-large) in
-    own-leads (moved_up top d.standing) d r.desktop n still.0 k.damage told new size change midway down (Single (Button time button true) gave.Button)
+    let turn = settles n midway in
+    let shows : ShowsSame r.desktop turn.0.desktop = shows-on r.desktop n.desktop turn.0.desktop still.0 (has-settled n turn.0 turn.1).shows in
+    let down : SettlesDown once new turn.0 = ends turn.0 turn.2 (settles-settled n turn.0 turn.1) in
+    let size : IsAsLarge k.damage once.damage =
+    subst (λ (dmg : Damaged). IsAsLarge k.damage dmg) (sym (quiet ∙ damage)) (large-on k.damage raised.damage released.damage large as-large) in
+    let way : List Desktop = path (moved_up top d.standing) d r.desktop turn.0 shows k.damage once new size change turn.2 down in
+    own-leads (moved_up top d.standing) d r.desktop turn.0 shows k.damage once new size change turn.2 down (Single (Button time button true) gave.Button)
     (press-raises time button d counted top hit)
-    (press-leads time button d counted n (path (moved_up top d.standing) d r.desktop n still.0 k.damage told new size change midway down) down.last.desktop acted
-    (buttons-end n (path (moved_up top d.standing) d r.desktop n still.0 k.damage told new size change midway down) down.last.desktop
-    (all (moved_up top d.standing) d r.desktop n still.0 k.damage told new size change midway down).0))
+    (press-leads time button d counted n way down.last.desktop acted (
+      turn.0,
+      turn.1,
+      ends-settled turn.0 way down.last.desktop (settles-settled n turn.0 turn.1)
+          (all (moved_up top d.standing) d r.desktop turn.0 shows k.damage once new size change turn.2 down).0,
+    ))
 
 -- ---- a release
 
@@ -330,17 +331,18 @@ released-moved (b ∷ bs) d moved = moved
 
 release-leads : (time button : ℕ) (d : Desktop) → is_down button d.pointer.buttons ≡ true → (n : Midstep) (later : List Desktop) (e : Desktop)
     → PointerActs (Release time button) (unstruck (with_release button d)) n
-    → ((settled : Midstep) × PointerActs Settle n settled × ending_through later e settled) → Leads nothing_left_out (Single (Button time button false) gave.Button) d later e
+    → ((settled : Midstep) × PointerActs Settle n settled × ending_through later e settled) → Leads (Single (Button time button false) gave.Button) d later e
 release-leads time button d counts n later e acts ends =
     (refl, subst (λ (b : Bool). ReleasesThen b time button d (ending_through later e)) (sym counts) (n, acts, ends.0, ends.1, ends.2))
 
-pub releases : (time button : ℕ) (k : KeptDesk) (seats : List (List ℕ)) (latest : List Latest) (p q : Pointer) (does : List PointerAction) (told new : MarkedDesk) → is_down button p.buttons ≡ true
+pub releases : (time button : ℕ) (k : KeptDesk) (seats : List (List ℕ)) (latest : List Latest) (p q : Pointer) (does : List PointerAction) (told once new : MarkedDesk) → is_down button p.buttons ≡ true
     → ((ws : List Window) → does ≡ actions (Release time button) q ws) → q ≡ with_buttons (without_button button p.buttons) p
     → ((m : Midstep) → IsTelling (desk_with k seats latest q).desk m → Each (IsTellable m.desktop.pointer.place (all_windows m.desktop)) does
     → (n : Midstep) × AppliesAll (all_windows m.desktop) (filter is_told does) m n × IsTelling told.desk n)
-    → told.desk.pointer ≡ q → told.damage ≡ k.damage → Settles told new
+    → told.desk.pointer ≡ q → told.damage ≡ k.damage
+    → ((m : Midstep) → IsMidway told.desk m → (n : Midstep) × Settles m n × IsMidway once.desk n) → once.damage ≡ told.damage → EndsFrom once new
     → LeadsBy (Single (Button time button false) gave.Button) (desk_with k seats latest p) new
-releases time button k seats latest p q does told new counts acts releasing tells stays damage settles d a =
+releases time button k seats latest p q does told once new counts acts releasing tells stays damage settles quiet ends d a =
     let ws : List Window = all_windows d in
     let buttons : List ℕ = without_button button d.pointer.buttons in
     let start : Midstep = unstruck (with_release button d) in
@@ -360,11 +362,14 @@ releases time button k seats latest p q does told new counts acts releasing tell
     let midway : IsMidway told.desk n =
     button-midway told.desk d start n a.placed t.2 (stays ∙ first) same.0 same.1
     (acts-stand (Release time button) start n acted (released-moved buttons d a.placed.moved)) still.1 in
-    let down : SettlesDown told new n = settles n midway in
-    let change : MarksChange None d d k.damage told.damage =
-    subst (λ (dmg : Damaged). MarksChange None d d k.damage dmg) (sym damage) (change-none None d k.damage (apart-now k seats latest p d a)) in
-    let size : IsAsLarge k.damage told.damage = subst (λ (dmg : Damaged). IsAsLarge k.damage dmg) (sym damage) (record { width = refl; height = refl }) in
+    let turn = settles n midway in
+    let down : SettlesDown once new turn.0 = ends turn.0 turn.2 (settles-settled n turn.0 turn.1) in
+    let change : MarksChange None d d k.damage once.damage =
+    subst (λ (dmg : Damaged). MarksChange None d d k.damage dmg) (sym (quiet ∙ damage)) (change-none None d k.damage (apart-now k seats latest p d a)) in
+    let size : IsAsLarge k.damage once.damage = subst (λ (dmg : Damaged). IsAsLarge k.damage dmg) (sym (quiet ∙ damage)) (record { width = refl; height = refl }) in
     let shows : ShowsSame d n.desktop = record { standing = still.0.standing; owned = still.0.owned } in
-    own-leads None d d n shows k.damage told new size change midway down (Single (Button time button false) gave.Button) refl
-    (release-leads time button d counted n (path None d d n shows k.damage told new size change midway down) down.last.desktop acted
-    (buttons-end n (path None d d n shows k.damage told new size change midway down) down.last.desktop (all None d d n shows k.damage told new size change midway down).0))
+    let shows-then : ShowsSame d turn.0.desktop = shows-on d n.desktop turn.0.desktop shows (has-settled n turn.0 turn.1).shows in
+    let way : List Desktop = path None d d turn.0 shows-then k.damage once new size change turn.2 down in
+    own-leads None d d turn.0 shows-then k.damage once new size change turn.2 down (Single (Button time button false) gave.Button) refl
+    (release-leads time button d counted n way down.last.desktop acted
+    (turn.0, turn.1, ends-settled turn.0 way down.last.desktop (settles-settled n turn.0 turn.1) (all None d d turn.0 shows-then k.damage once new size change turn.2 down).0))

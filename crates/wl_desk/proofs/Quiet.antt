@@ -12,7 +12,6 @@ use Rattle.spec_desktop.specs.Act.{Connect, Feed, Store, Leave, Tick, Send, Clos
 use Rattle.spec_desktop.specs.Desktop.{Desktop, Resident, arrival, client_at, toplevels_of, unpointed, with_client}
 use Rattle.spec_desktop.specs.Happenings.{Happening, Leads, Message, Receive, ReceivesAt, Single, Starve}
 use Rattle.spec_desktop.specs.Happens.{ChangesThen, ConnectsThen, LeavesThen}
-use Rattle.spec_desktop.specs.LeftOut.{LeftOut, nothing_left_out}
 use Rattle.spec_desktop.specs.Settling.{Midstep, unstruck}
 use Rattle.spec_desktop.specs.Step.{with_peer}
 use Rattle.spec_desktop.specs.Through.{ending_through, settling_through}
@@ -88,24 +87,18 @@ module _ (d : Desktop) (path : List Desktop) (e : Desktop) where
       let come : Resident = with_peer (with_rest (r.peer.rest ++ piece) r.peer) r in
       (h.2, subst (λ (y : Desktop). ShowsSame d y) (sym h.1) (put-shows c r (Some come) d there refl))
 
-pub quiet-shows : (left : LeftOut) (h : Happening) (d : Desktop) (path : List Desktop) (e : Desktop) → is_quiet h ≡ true → EndedAreBare d → Leads left h d path e → (path ≡ e ∷ []) × ShowsSame d e
-quiet-shows left (Receive c piece) d path e quiet bare h = received d path e c piece (client_at c d) refl h
-quiet-shows left (Message c) d path e quiet bare h = absurd (true≢false (sym quiet))
-quiet-shows left (Starve c) d path e quiet bare h = absurd (true≢false (sym quiet))
-quiet-shows left (Single Connect done) d path e quiet bare h = connected d path e (lowest d.clients) done refl h
-quiet-shows left (Single (Feed c piece) done) d path e quiet bare h = absurd h
-quiet-shows left (Single (Store c store at bytes) done) d path e quiet bare h =
+pub quiet-shows : (h : Happening) (d : Desktop) (path : List Desktop) (e : Desktop) → is_quiet h ≡ true → EndedAreBare d → Leads h d path e → (path ≡ e ∷ []) × ShowsSame d e
+quiet-shows (Receive c piece) d path e quiet bare h = received d path e c piece (client_at c d) refl h
+quiet-shows (Single Connect done) d path e quiet bare h = connected d path e (lowest d.clients) done refl h
+quiet-shows (Single (Feed c piece) done) d path e quiet bare h = absurd h
+quiet-shows (Single (Store c store at bytes) done) d path e quiet bare h =
     changed d path e (IsStored store at bytes) _ c (client_at c d) done refl (λ r q there stored gone. never-none q _ stored.0 gone) h
-quiet-shows left (Single (Leave c) (gave.Gone true)) d path e quiet bare h = absurd (true≢false (sym quiet))
-quiet-shows left (Single (Leave c) (gave.Gone false)) d path e quiet bare h = gone d path e c (client_at c d) h
-quiet-shows left (Single (Leave c) done) d path e quiet bare h = absurd (true≢false (sym quiet))
-quiet-shows left (Single (Tick time) done) d path e quiet bare h = absurd (true≢false (sym quiet))
-quiet-shows left (Single (Send c n) done) d path e quiet bare h =
+quiet-shows (Single (Leave c) (gave.Gone false)) d path e quiet bare h = gone d path e c (client_at c d) h
+quiet-shows (Single (Send c n) done) d path e quiet bare h =
     changed d path e (IsSent n) _ c (client_at c d) done refl (λ r q there sent gone. never-none q _ sent.0 gone) h
-quiet-shows left (Single (Close c) done) d path e quiet bare h =
+quiet-shows (Single (Close c) done) d path e quiet bare h =
     changed d path e IsClosed _ c (client_at c d) done refl (λ r q there closed gone. bare c r there (closed-none r.peer.status r.peer (sym closed.0 ∙ gone))) h
-quiet-shows left (Single (Motion time x y) done) d path e quiet bare h = absurd (true≢false (sym quiet))
-quiet-shows left (Single (Button time button pressed) done) d path e quiet bare h = absurd (true≢false (sym quiet))
+quiet-shows happening d path e quiet bare h = absurd (true≢false (sym quiet))
 
 -- ---- the pointer is put back
 
@@ -119,9 +112,9 @@ pub quiet-leads : (h : Happening) (d : Desktop) (old new : MarkedDesk) → is_qu
     → Led (Agrees new.desk) h old.damage new.damage d
 quiet-leads h d old new quiet a led stays seats latest =
     let e : Desktop = led.desktop in
-    let shows = quiet-shows nothing_left_out h (unpointed d) led.path e quiet (ended-bare (unpointed d) a.kept.ordered) led.leads in
+    let shows = quiet-shows h (unpointed d) led.path e quiet (ended-bare (unpointed d) a.kept.ordered) led.leads in
     let same : ShowsSame d e = record { standing = shows.1.standing; owned = shows.1.owned } in
-    let on : Leads nothing_left_out h d (pointed d.pointer e ∷ []) (pointed d.pointer e) = quiet-apart nothing_left_out h d led.path e quiet led.leads in
+    let on : Leads h d (pointed d.pointer e ∷ []) (pointed d.pointer e) = quiet-apart h d led.path e quiet led.leads in
     record {
       path = pointed d.pointer e ∷ [];
       desktop = pointed d.pointer e;
@@ -129,7 +122,7 @@ quiet-leads h d old new quiet a led stays seats latest =
       agrees = record {
         kept = kept-aside new.desk.kept d.pointer e led.agrees;
         pointer = stays ∙ a.pointer;
-        placed = record { nowhere = a.placed.nowhere; moved = moved-stands-on.1 nothing_left_out h d (pointed d.pointer e ∷ []) (pointed d.pointer e) a.placed.moved on };
+        placed = record { nowhere = a.placed.nowhere; moved = moved-stands-on.1 h d (pointed d.pointer e ∷ []) (pointed d.pointer e) a.placed.moved on };
         seats = seats;
         latest = latest;
         settled = same-settled d e same a.settled;

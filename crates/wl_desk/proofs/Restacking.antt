@@ -162,13 +162,8 @@ module _ (t : Target) (x y i j : ℤ) (across : i ≡ x) (down : j ≡ y) where
 
 -- what the pointer does else moves none
 pub not-moved : (a : Action) → ((t : Named) (x y : ℤ) → a ≡ does.MoveWindow t x y → ⊥) → (standing : List Standing) → dragged (action_of a) standing ≡ standing
-not-moved (does.Leave t) none standing = refl
-not-moved (does.Enter t) none standing = refl
-not-moved (does.Motion time t) none standing = refl
-not-moved (does.Button time button pressed t) none standing = refl
-not-moved (does.Raise t) none standing = refl
 not-moved (does.MoveWindow t x y) none standing = absurd (none t x y refl)
-not-moved (does.Dismiss client) none standing = refl
+not-moved a none standing = refl
 
 -- the first thing that it does
 pub none-dragged : (xs : List Action) → None ≡ slice_get xs 0 → (standing : List Standing) → first_dragged (map action_of xs) standing ≡ standing

@@ -238,7 +238,7 @@ settles-down k old now new m last done few settles over midway same =
     }
 
 -- where the focus is settled, and nobody is to end, nothing is done
-pub still-down : (old : MarkedDesk) (m : Midstep) → IsMidway old.desk m → m.struck ≡ [] → IsSettled m.desktop → SettlesDown old old m
+still-down : (old : MarkedDesk) (m : Midstep) → IsMidway old.desk m → m.struck ≡ [] → IsSettled m.desktop → SettlesDown old old m
 still-down old m midway none is =
     record {
       count = 0;
@@ -253,6 +253,9 @@ still-down old m midway none is =
       marks = marks-none m.desktop old.damage;
       distinct = midway-apart old.desk m midway;
     }
+
+pub ends-not : (old : MarkedDesk) → ((m : Midstep) → IsTelling old.desk m → None ≡ first_struck m.struck) → (m : Midstep) → IsMidway old.desk m → IsSettled m.desktop → SettlesDown old old m
+ends-not old none m midway is = still-down old m midway (none-first m.struck (none m midway.telling)) is
 
 -- ---- the loop
 

@@ -9,7 +9,6 @@ use Rattle.spec_desktop.specs.Demand.{Demand, GetPointer}
 use Rattle.spec_desktop.specs.Demand.{Move as MoveToplevel}
 use Rattle.spec_desktop.specs.Desktop.{Desktop, Resident, client_at, status_in, status_of, unpointed}
 use Rattle.spec_desktop.specs.Happenings.{Message}
-use Rattle.spec_desktop.specs.LeftOut.{nothing_left_out}
 use Rattle.spec_desktop.specs.Through.{ServesThrough}
 use Rattle.law_desktop.specs.Pointed.Pointed.{asked}
 use Rattle.law_desktop.specs.Pointed.Seats.{AskedForPointer, HadPointers, HasPointersAfter}
@@ -137,29 +136,29 @@ asks-new-pointer o request numbers id version asks is = subst (λ (o : Option De
 -- ---- after a message
 
 module _ (c : ℕ) (request : PointerAsked) (room : Bool) (numbers : ById ℕ) (seats : List (List ℕ)) (d e : Desktop) (path : List Desktop) (are : AreSeats seats d)
-    (leads : ServesThrough nothing_left_out c (unpointed d) path e) (asks : AsksOfPointer numbers (asked nothing_left_out c d) request)
+    (leads : ServesThrough c (unpointed d) path e) (asks : AsksOfPointer numbers (asked c d) request)
     (no_room : (id : ℕ) → request ≡ NewPointer id → room ≡ false → is_some (status_in c e) ≡ true) (placed : room ≡ true → IsPlaced c seats) where
   never-both : (q : Resident) → client_at c e ≡ Some q → q.peer.status ≡ None → is_some (status_in c e) ≡ true → ⊥
   never-both q here alive ended =
       true≢false (sym ended ∙ ap (λ (o : Option Resident). is_some (status_of o)) here ∙ ap (λ (s : Option Cause). is_some s) alive)
 
   -- its client asked for none
-  had : (other : ℕ) (q : Resident) → client_at other e ≡ Some q → q.peer.status ≡ None → HadPointers nothing_left_out (Message c) (unpointed d) other q
+  had : (other : ℕ) (q : Resident) → client_at other e ≡ Some q → q.peer.status ≡ None → HadPointers (Message c) (unpointed d) other q
       → seat_of (seats_after room request c seats) other ≡ q.pointers
   had other q here alive h =
-      seats-same room request c other seats (λ id is same. at id same (asks-by (asked nothing_left_out c d) request numbers id asks is)) ∙ are other h.0 h.1 h.2 ∙ sym h.3
+      seats-same room request c other seats (λ id is same. at id same (asks-by (asked c d) request numbers id asks is)) ∙ are other h.0 h.1 h.2 ∙ sym h.3
     where
-      at : (id : ℕ) → c ≡ other → (asked nothing_left_out c d ≡ None) ⊎ ((version : ℕ) × (asked nothing_left_out c d ≡ Some (GetPointer id version))) → ⊥
+      at : (id : ℕ) → c ≡ other → (asked c d ≡ None) ⊎ ((version : ℕ) × (asked c d ≡ Some (GetPointer id version))) → ⊥
       at id same (inl none) =
-          never-both q (subst (λ (n : ℕ). client_at n e ≡ Some q) (sym same) here) alive (refused-ends nothing_left_out c d path e none leads)
-      at id same (inr get) = h.4 id get.0 (ap Message same) (subst (λ (n : ℕ). asked nothing_left_out n d ≡ Some (GetPointer id get.0)) same get.1)
+          never-both q (subst (λ (n : ℕ). client_at n e ≡ Some q) (sym same) here) alive (refused-ends c d path e none leads)
+      at id same (inr get) = h.4 id get.0 (ap Message same) (subst (λ (n : ℕ). asked n d ≡ Some (GetPointer id get.0)) same get.1)
 
-  asked_for : (other : ℕ) (q : Resident) → client_at other e ≡ Some q → q.peer.status ≡ None → AskedForPointer nothing_left_out (Message c) (unpointed d) other q
+  asked_for : (other : ℕ) (q : Resident) → client_at other e ≡ Some q → q.peer.status ≡ None → AskedForPointer (Message c) (unpointed d) other q
       → seat_of (seats_after room request c seats) other ≡ q.pointers
   asked_for other q here alive h =
       let same : c ≡ other = message-same c other h.5 in
       let is : request ≡ NewPointer h.1 =
-      asks-new-pointer (asked nothing_left_out c d) request numbers h.1 h.2 asks (subst (λ (n : ℕ). asked nothing_left_out n d ≡ Some (GetPointer h.1 h.2)) (sym same) h.6) in
+      asks-new-pointer (asked c d) request numbers h.1 h.2 asks (subst (λ (n : ℕ). asked n d ≡ Some (GetPointer h.1 h.2)) (sym same) h.6) in
       subst (λ (n : ℕ). seat_of (seats_after room request c seats) n ≡ q.pointers) same
       (by room refl is (subst (λ (n : ℕ). client_at n e ≡ Some q) (sym same) here)
       ∙ ap (in_rising_order h.1) (are c h.0 (subst (λ (n : ℕ). client_at n d ≡ Some h.0) (sym same) h.3) h.4) ∙ sym h.7)
@@ -170,9 +169,9 @@ module _ (c : ℕ) (request : PointerAsked) (room : Bool) (numbers : ById ℕ) (
           ap (λ (r : PointerAsked). seat_of (seats_after true r c seats) c) is ∙ added-here h.1 c seats (placed so)
 
   pub seats-keep : AreSeats (seats_after room request c seats) e
-  seats-keep other q here alive = at (pointers-stay nothing_left_out (Message c) (unpointed d) path e other q leads here alive)
+  seats-keep other q here alive = at (pointers-stay (Message c) (unpointed d) path e other q leads here alive)
     where
-      at : HasPointersAfter nothing_left_out (Message c) (unpointed d) other q → seat_of (seats_after room request c seats) other ≡ q.pointers
+      at : HasPointersAfter (Message c) (unpointed d) other q → seat_of (seats_after room request c seats) other ≡ q.pointers
       at (inl h) = had other q here alive h
       at (inr (inl h)) = asked_for other q here alive h
       at (inr (inr h)) = let never = h.0 in absurd (cc)

@@ -5,7 +5,6 @@ use Rattle.spec_desktop.specs.declared.answers.Done.TheVariants as gave
 use Rattle.spec_desktop.specs.Act.{Connect, Leave}
 use Rattle.spec_desktop.specs.Desktop.{Desktop, unpointed}
 use Rattle.spec_desktop.specs.Happenings.{Happening, Leads, Message, Single, Starve}
-use Rattle.spec_desktop.specs.LeftOut.{nothing_left_out}
 use Rattle.law_desktop.specs.Pointed.Happenings.{IsEndOf}
 use Rattle.law_desktop.specs.Pointed.Seats.{HasPointersAfter}
 use Rattle.law_desktop.proofs.PointerAside.Pointing.{pointers-stay}
@@ -16,10 +15,10 @@ use Rattle.wl_desk.specs.View.{seat_of}
 abbrev pub KeepsSeats : Happening → Type 0
 KeepsSeats h = (c : ℕ) → (h ≢ Message c) × (h ≢ Single Connect (gave.Connect (Ok c)))
 
-pub seats-stay : (seats : List (List ℕ)) (h : Happening) (d : Desktop) (path : List Desktop) (e : Desktop) → KeepsSeats h → AreSeats seats d → Leads nothing_left_out h (unpointed d) path e → AreSeats seats e
-seats-stay seats h d path e keeps are leads c q there lives = at (pointers-stay nothing_left_out h (unpointed d) path e c q leads there lives)
+pub seats-stay : (seats : List (List ℕ)) (h : Happening) (d : Desktop) (path : List Desktop) (e : Desktop) → KeepsSeats h → AreSeats seats d → Leads h (unpointed d) path e → AreSeats seats e
+seats-stay seats h d path e keeps are leads c q there lives = at (pointers-stay h (unpointed d) path e c q leads there lives)
   where
-    at : HasPointersAfter nothing_left_out h (unpointed d) c q → seat_of seats c ≡ q.pointers
+    at : HasPointersAfter h (unpointed d) c q → seat_of seats c ≡ q.pointers
     at (inl had) = are c had.0 had.1 had.2 ∙ sym had.3
     at (inr (inl asked)) = absurd ((keeps c).0 asked.5)
     at (inr (inr came)) = absurd ((keeps c).1 came.0)

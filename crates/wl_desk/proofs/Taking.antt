@@ -11,7 +11,6 @@ use Rattle.spec_desktop.specs.declared.answers.Fed.TheVariants.{Ended}
 use Rattle.spec_desktop.specs.Act.{fed_of, peer_at, peer_of, status_of as status_fed}
 use Rattle.spec_desktop.specs.Desktop.{Desktop, Resident, client_at, status_in, status_of, unpointed}
 use Rattle.spec_desktop.specs.Happenings.{Message}
-use Rattle.spec_desktop.specs.LeftOut.{nothing_left_out}
 use Rattle.spec_desktop.specs.Settling.{unstruck}
 use Rattle.law_desktop.specs.Pointed.Pointed.{asked}
 use Rattle.wl_requests.specs.declared.pointer_asked.PointerAsked.{PointerAsked}
@@ -32,7 +31,7 @@ use Rattle.wl_desk.proofs.LatestStay.{latest-stay, message-keeps}
 use Rattle.wl_desk.proofs.Seated.{IsPlaced, seats-keep}
 
 pub taken : (c : ℕ) (request : PointerAsked) (room : Bool) (old new : MarkedDesk) (d : Desktop) → Agrees old.desk d
-    → Led (KeptAgrees new.desk.kept) (Message c) old.damage new.damage (unpointed d) → AsksOfPointer (numbers_in old.desk.kept.clients c) (asked nothing_left_out c d) request
+    → Led (KeptAgrees new.desk.kept) (Message c) old.damage new.damage (unpointed d) → AsksOfPointer (numbers_in old.desk.kept.clients c) (asked c d) request
     → ((id : ℕ) → request ≡ NewPointer id → room ≡ false → (e : Desktop) → KeptAgrees new.desk.kept e → is_some (status_in c e) ≡ true)
     → IsAsLarge old.damage new.damage → (room ≡ true → IsPlaced c old.desk.seats) → new.desk.seats ≡ seats_after room request c old.desk.seats
     → new.desk.latest ≡ old.desk.latest → new.desk.pointer ≡ old.desk.pointer → Took c request old new d
@@ -81,7 +80,7 @@ pub took-whole : (c : ℕ) (request : PointerAsked) (room : Bool) (k now : KeptD
     → is ≡ seats_after room request c seats → (room ≡ true → IsPlaced c seats) → (told : Latest)
     → ((d : Desktop) → Agrees (desk_with k seats latest p).desk d → IsLatest told (client_at c d))
     → ((d : Desktop) → KeptAgrees k.desk d → IsLatest told (client_at c d) → Led (KeptAgrees now.desk) (Message c) k.damage now.damage d)
-    → ((d : Desktop) → KeptAgrees k.desk d → AsksOfPointer (numbers_in k.desk.clients c) (asked nothing_left_out c d) request)
+    → ((d : Desktop) → KeptAgrees k.desk d → AsksOfPointer (numbers_in k.desk.clients c) (asked c d) request)
     → ((id : ℕ) → request ≡ NewPointer id → room ≡ false → (e : Desktop) → KeptAgrees now.desk e → is_some (status_in c e) ≡ true) → IsAsLarge k.damage now.damage
     → (d : Desktop) → Agrees old.desk d → Took c request old (desk_with now is latest p) d
 took-whole c request room k now seats is latest p old view same placed told serials leads asks no_room large d a =

@@ -17,22 +17,13 @@ end-unraised c h d (inl is) = ap (λ (x : Happening). raised_by x d) is
 end-unraised c h d (inr is) = ap (λ (x : Happening). raised_by x d) is
 
 act-unraised : (act : Act) (done : Done) (d : Desktop) → is_quiet_act act done ≡ true → raised_in act d ≡ None
-act-unraised Connect done d quiet = refl
-act-unraised (Feed client piece) done d quiet = refl
-act-unraised (Store client store at bytes) done d quiet = refl
-act-unraised (Leave client) done d quiet = refl
-act-unraised (Tick time) done d quiet = refl
-act-unraised (Send client count) done d quiet = refl
-act-unraised (Close client) done d quiet = refl
-act-unraised (Motion time x y) done d quiet = refl
 act-unraised (Button time button pressed) done d quiet = absurd (true≢false (sym quiet))
+act-unraised act done d quiet = refl
 
 -- nobody is told and nobody ends
 pub quiet-unraised : (h : Happening) (d : Desktop) → is_quiet h ≡ true → raised_by h d ≡ None
-quiet-unraised (Receive client piece) d quiet = refl
-quiet-unraised (Message client) d quiet = refl
-quiet-unraised (Starve client) d quiet = refl
 quiet-unraised (Single act done) d quiet = act-unraised act done d quiet
+quiet-unraised h d quiet = refl
 
 -- where no press raised any, what is marked is so
 pub marks-unraised : (raised : Option (ℕ × ℕ)) (d : Desktop) (path : List Desktop) (old new : Damaged) → raised ≡ None → MarksThroughBy raised d path old new → MarksThrough d path old new

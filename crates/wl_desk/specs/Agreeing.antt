@@ -6,7 +6,6 @@ use Rattle.spec_desktop.specs.Act.{Act}
 use Rattle.spec_desktop.specs.Desktop.{Desktop, Resident, client_at, unpointed}
 use Rattle.spec_desktop.specs.Happenings.{Happening}
 use Rattle.spec_desktop.specs.Happens.{Happens}
-use Rattle.spec_desktop.specs.LeftOut.{nothing_left_out}
 use Rattle.spec_desktop.specs.Settling.{Midstep, is_struck, unstruck}
 use Rattle.law_desktop.specs.Focus.{IsSettled}
 use Rattle.law_desktop.specs.Pointed.Pointed.{MovedStands}
@@ -44,7 +43,7 @@ pub record Agrees (v : DeskView) (d : Desktop) : Type 0 where
 
 -- One step leads from old to new: whatever desktop agrees before, one to which the step leads agrees after.
 abbrev pub TakesStep : Act → Done → DeskView → DeskView → Type 0
-TakesStep act done old new = (d : Desktop) → Agrees old d → (e : Desktop) × Happens nothing_left_out act done d e × Agrees new e
+TakesStep act done old new = (d : Desktop) → Agrees old d → (e : Desktop) × Happens act done d e × Agrees new e
 
 -- One thing that happens leads from whatever desktop agrees before to one that agrees after, and marks what it has to on the way.
 abbrev pub LeadsBy : Happening → MarkedDesk → MarkedDesk → Type 0

@@ -4,7 +4,6 @@ use Rattle.wl_scene.specs.Marking.{IsAsLarge}
 use Rattle.spec_desktop.specs.Pointer.{Pointer, Target}
 use Rattle.spec_desktop.specs.Desktop.{Desktop, status_in, unpointed}
 use Rattle.spec_desktop.specs.Happenings.{Leads, Message}
-use Rattle.spec_desktop.specs.LeftOut.{nothing_left_out}
 use Rattle.spec_desktop.specs.Settling.{unstruck}
 use Rattle.spec_desktop.specs.Through.{SettlesAllThrough}
 use Rattle.law_desktop.specs.Focus.{IsSettled}
@@ -25,11 +24,11 @@ use Rattle.wl_desk.specs.View.{MarkedDesk}
 pub record Took (c : ℕ) (request : PointerAsked) (old new : MarkedDesk) (d : Desktop) : Type 0 where
   pub path : List Desktop
   pub desktop : Desktop
-  pub leads : Leads nothing_left_out (Message c) (unpointed d) path desktop
+  pub leads : Leads (Message c) (unpointed d) path desktop
   pub kept : KeptAgrees new.desk.kept desktop
   pub marks : MarksThrough (unpointed d) path old.damage new.damage
   pub sides : IsAsLarge old.damage new.damage
-  pub asks : AsksOfPointer (numbers_in old.desk.kept.clients c) (asked nothing_left_out c d) request
+  pub asks : AsksOfPointer (numbers_in old.desk.kept.clients c) (asked c d) request
   pub seats : AreSeats new.desk.seats desktop
   pub latest : AreLatest new.desk.latest (unstruck desktop)
   pub pointer : new.desk.pointer ≡ d.pointer
@@ -43,7 +42,7 @@ pub record IsUnsettled (c : ℕ) (lives : Bool) (old new : MarkedDesk) (d : Desk
   pub path : List Desktop
   pub start : Desktop
   pub last : last_of d path ≡ start
-  pub leads : (later : List Desktop) (e : Desktop) → SettlesAllThrough 33 (unstruck start) later e → Leads nothing_left_out (Message c) d (path ++ later) e
+  pub leads : (later : List Desktop) (e : Desktop) → SettlesAllThrough 33 (unstruck start) later e → Leads (Message c) d (path ++ later) e
   pub midway : IsMidway new.desk (unstruck start)
   pub marks : MarksThrough d path old.damage new.damage
   pub sides : IsAsLarge old.damage new.damage

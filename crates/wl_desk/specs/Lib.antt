@@ -9,9 +9,11 @@ pub mod Restacking
 pub mod Seating
 pub mod Serials
 pub mod View
+pub mod Ways
 pub use Rattle.wl_clients.specs.Agreement
 pub use Rattle.wl_clients.specs.Feeding
 pub use Rattle.wl_clients.specs.Framing
 pub use Rattle.wl_clients.specs.Leading
 pub use Rattle.wl_clients.specs.Marking
 pub use Rattle.wl_clients.specs.NextStore
+pub use Rattle.wl_clients.specs.Shown

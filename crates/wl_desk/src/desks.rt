@@ -2,7 +2,6 @@
 
 ghost use Rattle.std.specs.Prelude.{◌≡◌, ◌≢◌, ◌↔◌, ◌&&◌, ℕ, ◌<◌, IfOk, IfSome, IfNone, IsErrOf, OnOk, OnErr, None, [], false, true, length, pos, ◌+◌, ◌≤◌, ◌⊎◌, vec_len};
 ghost use Rattle.std.specs.Option.{option_copied};
-ghost use Rattle.wl_client.specs.Agreement.{output_of};
 ghost use Rattle.wl_paint.specs.Damage.{has};
 ghost use Rattle.wl_paint.specs.Frame.{color_at, is_side};
 ghost use Rattle.wl_scene.specs.Marking.{IsAsLarge};
@@ -12,7 +11,6 @@ ghost use Rattle.spec_desktop.specs.Act.{Connect, Store, Leave, Tick, Send, Clos
 ghost use Rattle.spec_desktop.specs.Desktop.{Desktop, client_at, empty, status_in, unpointed};
 ghost use Rattle.spec_desktop.specs.Happenings.{Message, Single, Starve};
 ghost use Rattle.spec_desktop.specs.Scratch.{scratch};
-ghost use Rattle.spec_desktop.specs.LeftOut.{nothing_left_out};
 ghost use Rattle.law_desktop.specs.Pointed.Happenings.{pointer_left};
 ghost use Rattle.law_desktop.specs.Pointed.Pointed.{asked};
 ghost use Rattle.wl_clients.specs.Agreeing.{Agrees as KeptAgrees};
@@ -21,10 +19,11 @@ ghost use Rattle.wl_clients.specs.Leading.{Led};
 ghost use Rattle.wl_clients.specs.NextStore.{next_store_of};
 ghost use Rattle.wl_clients.specs.Pointing.{IsLatest};
 ghost use Rattle.wl_clients.specs.Touching.{ChangesNoWindow};
-ghost use Rattle.wl_desk.specs.Agreeing.{Agrees, LeadsBy, LeadsQuietly, MarksNothing};
+ghost use Rattle.wl_desk.specs.Agreeing.{Agrees, LeadsBy, MarksNothing};
 ghost use Rattle.wl_desk.specs.Beginning.{IsToMove};
 ghost use Rattle.wl_desk.specs.Following.{IsUnsettled, Took, left_of};
 ghost use Rattle.wl_desk.specs.View.{DeskView, MarkedDesk, latest_of, no_latest, seat_of};
+ghost use Rattle.wl_desk.specs.Ways.{LeadsOnceEnded, LeadsOnceSettled, LeadsQuietlyOnceSettled, SettlesFrom};
 
 use crate::latest::{forget, latest_of, none};
 use crate::moves::to_move;
@@ -32,11 +31,11 @@ use crate::seating::{keep_asked, make_room};
 use spec_desktop::Done;
 use std::alloc::{AllocError, Allocator};
 use std::marker::Model;
-use wl_client::{Cause, Output, Served, StoreNo};
+use wl_client::{Cause, Config, Output, Served, StoreNo};
 use wl_clients::{
     ClientNo, Clients, ConnectError, Fed, Latest, MAX_CLIENTS, PointerAsked, Stored, Taken,
 };
-use wl_paint::{Damage, FrameError, Framebuffer};
+use wl_paint::{Damage, FrameError, Framebuffer, is_side};
 use wl_scene::{Focus, Target};
 
 /// All clients with the windows that they show, the wl_pointers of each, the serials of its latest press and release, and the pointer. It is
@@ -65,14 +64,22 @@ impl<A: Allocator> Model for Desk<A> {
 }
 
 impl<A: Allocator + Copy> Desk<A> {
-    /// A desk without clients, with this output: its sides are 1 to 4,096 pixels. Nothing is to be painted, and the pointer isn't anywhere.
-    pub fn new(alloc: A, output: Output) -> Result<Self, FrameError>
-        ensures desk { IfOk result (λ v. Agrees v.desk (empty (output_of output))) }
-        ensures output { IfOk result (λ v. v.desk.kept.output ≡ output) }
+    /// A desk without clients, with an output of these sides. Nothing is to be painted, and the pointer isn't anywhere. `BadSize` where a side
+    /// isn't 1 to 4,096 pixels.
+    pub fn new(alloc: A, config: Config) -> Result<Self, FrameError>
+        ensures desk { IfOk result (λ v. Agrees v.desk (empty (record { width = config.width; height = config.height }))) }
+        ensures output { IfOk result (λ v. (v.desk.kept.output.width ≡ config.width) × (v.desk.kept.output.height ≡ config.height)) }
         ensures damage { IfOk result (λ v. (x y : ℕ) → has v.damage x y ≡ false) }
-        ensures sides { IfOk result (λ v. (v.damage.width ≡ output.width) × (v.damage.height ≡ output.height)) }
-        ensures bad { IsErrOf result FrameError.BadSize ↔ ((is_side output.width && is_side output.height) ≡ false) }
+        ensures sides { IfOk result (λ v. (v.damage.width ≡ config.width) × (v.damage.height ≡ config.height)) }
+        ensures bad { IsErrOf result FrameError.BadSize ↔ ((is_side config.width && is_side config.height) ≡ false) }
     {
+        if !is_side(config.width) || !is_side(config.height) {
+            return Err(FrameError::BadSize);
+        }
+        let output = Output {
+            width: config.width,
+            height: config.height,
+        };
         let clients = Clients::new(alloc, output)?;
         let Ok(seats) = seats_of(alloc) else {
             return Err(FrameError::Memory);
@@ -140,11 +147,12 @@ impl<A: Allocator + Copy> Desk<A> {
         self.clients.keep(client, piece)
     }
 
-    /// Takes the first whole message of what came from a client that lives, and settles the focus of the pointer. `More` where there is none;
-    /// then nothing is changed. What the message changes is marked, and the windows of each client that ends. Where the message touches no
-    /// windows and its client lives on, the focus is settled still, and nothing is done for it.
+    /// Takes the first whole message of what came from a client that lives. `More` where there is none; then nothing is changed. What the message
+    /// changes is marked, and the windows of its client if that ends by it. The focus of the pointer is settled once by that; where the message
+    /// touches no windows and its client lives on, it is settled still, and nothing is done for it. Who can't be told of it is to end (see
+    /// [`Desk::struck`]).
     pub fn serve(&mut self, client: ClientNo) -> Served
-        ensures leads { result ≢ Served.More → LeadsBy (Message client) self.old self.new }
+        ensures leads { result ≢ Served.More → LeadsOnceEnded (Message client) self.old self.new }
         ensures told { result ≢ Served.More → (d : Desktop) → Agrees self.new.desk d → result ≡ served_of (status_of (peer_at client d)) }
         ensures more { result ≡ Served.More → (d : Desktop) → Agrees self.old.desk d → Agrees self.new.desk d × IsIdleIn client d }
         ensures rests { result ≡ Served.More → self.new.damage ≡ self.old.damage }
@@ -195,7 +203,7 @@ impl<A: Allocator + Copy> Desk<A> {
     /// client has it (wayland.xml, wl_pointer.enter). Where it begins to move a toplevel, motions move that one from now on; and one that
     /// doesn't stand any more isn't moved any more. True where the client lives on.
     fn follow(&mut self, client: ClientNo, request: PointerAsked, toplevel: Option<Target>) -> bool
-        ensures follows { (old : MarkedDesk) (d : Desktop) → Took client request old self.old d → IsToMove (asked nothing_left_out client d) client d (target_or_none toplevel)
+        ensures follows { (old : MarkedDesk) (d : Desktop) → Took client request old self.old d → IsToMove (asked client d) client d (target_or_none toplevel)
             → IsUnsettled client result old self.new d }
         ensures sides { IsAsLarge self.old.damage self.new.damage }
         ensures rests { (c : ℕ) → length (rest_in c self.new.desk.kept) ≤ length (rest_in c self.old.desk.kept) }
@@ -232,34 +240,31 @@ impl<A: Allocator + Copy> Desk<A> {
         if self.enter_new(focus, id) {
             return true;
         }
-        self.end_refused(client);
+        self.end_struck(client);
         false
     }
 
-    /// Memory runs out for a client that lives, and it ends by that; the focus of the pointer is settled. The windows of each client that
-    /// ends are marked.
+    /// Memory runs out for a client that lives, and it ends by that, with its windows marked. The focus of the pointer is to be settled then.
     pub fn starve(&mut self, client: ClientNo)
-        ensures leads { (d : Desktop) → Agrees self.old.desk d → status_of (peer_at client d) ≡ Fed.Alive
-            → Led (Agrees self.new.desk) (Starve client) self.old.damage self.new.damage d }
+        ensures leads { (new : MarkedDesk) → SettlesFrom self.new new → (d : Desktop) → Agrees self.old.desk d
+            → status_of (peer_at client d) ≡ Fed.Alive → Led (Agrees new.desk) (Starve client) self.old.damage new.damage d }
         ensures sides { IsAsLarge self.old.damage self.new.damage }
         ensures output { self.new.desk.kept.output ≡ self.old.desk.kept.output }
     {
         self.clients.starve(client);
         self.pointer.forget(client);
-        self.settle();
     }
 
     /// A frame was shown at this time, in milliseconds: the clients in rising number are told that their frame callbacks that are due are done
-    /// (wayland.xml, wl_surface.frame). One to which an event isn't queued ends, and its windows are marked; then the focus of the pointer is
-    /// settled. Where none ends, nothing more is to be painted.
+    /// (wayland.xml, wl_surface.frame). One to which an event isn't queued ends, and its windows are marked. Where none ends, nothing more is to
+    /// be painted. The focus of the pointer is to be settled then.
     pub fn frames(&mut self, time: u32)
-        ensures leads { LeadsQuietly (Single (Tick time) Done.Tick) self.old self.new }
+        ensures leads { LeadsQuietlyOnceSettled (Single (Tick time) Done.Tick) self.old self.new }
         ensures sides { IsAsLarge self.old.damage self.new.damage }
         ensures output { self.new.desk.kept.output ≡ self.old.desk.kept.output }
     {
         self.clients.frames(time);
         self.forget_ended();
-        self.settle();
     }
 
     /// The pointer leaves what it has of clients that ended.
@@ -319,9 +324,10 @@ impl<A: Allocator + Copy> Desk<A> {
         self.clients.next_store(client, number)
     }
 
-    /// A client goes, and the focus of the pointer is settled. True where it was alive. The windows of each client that ends are marked.
+    /// A client goes, with its windows marked. True where it was alive; the focus of the pointer is to be settled then. Else nothing is done.
     pub fn gone(&mut self, client: ClientNo) -> bool
-        ensures leads { LeadsBy (Single (Leave client) (Done.Gone result)) self.old self.new }
+        ensures leads { result ≡ true → LeadsOnceSettled (Single (Leave client) (Done.Gone true)) self.old self.new }
+        ensures stays { result ≡ false → LeadsBy (Single (Leave client) (Done.Gone false)) self.old self.new }
         ensures sides { IsAsLarge self.old.damage self.new.damage }
         ensures output { self.new.desk.kept.output ≡ self.old.desk.kept.output }
     {
@@ -329,7 +335,6 @@ impl<A: Allocator + Copy> Desk<A> {
             return false;
         }
         self.pointer.forget(client);
-        self.settle();
         true
     }
 

@@ -8,10 +8,10 @@ ghost use Rattle.spec_desktop.specs.Happenings.{Single};
 ghost use Rattle.spec_desktop.specs.Happens.{within};
 ghost use Rattle.spec_desktop.specs.Pointing.{moved_standing};
 ghost use Rattle.spec_desktop.specs.Settling.{Midstep, with_standing};
-ghost use Rattle.wl_desk.specs.Agreeing.{LeadsBy};
 ghost use Rattle.wl_desk.specs.Midway.{IsTelling};
 ghost use Rattle.wl_clients.specs.Raising.{MarksChange};
 ghost use Rattle.wl_desk.specs.Restacking.{HasNumber, dragged, first_dragged, first_moved, moved_of};
+ghost use Rattle.wl_desk.specs.Ways.{LeadsOnceEnded};
 
 use crate::desks::Desk;
 use std::alloc::Allocator;
@@ -21,10 +21,10 @@ use wl_scene::{Action, Actions, Point, Target};
 impl<A: Allocator + Copy> Desk<A> {
     /// The pointer goes to a point of the output in pixels, held within it, at a time in milliseconds. A toplevel that it moves goes along,
     /// and its windows are marked. The surface that keeps the focus is told of the motion, unless a toplevel is moved; where the focus moves,
-    /// the one that had it is left and the other entered (wayland.xml, wl_pointer.motion, leave and enter). The windows of each client that
-    /// can't be told, and so ends, are marked.
+    /// the one that had it is left and the other entered (wayland.xml, wl_pointer.motion, leave and enter): so it is settled once. Who can't be
+    /// told is to end (see [`Desk::struck`]).
     pub fn motion(&mut self, time: u32, x: i32, y: i32)
-        ensures leads { LeadsBy (Single (Motion time x y) Done.Motion) self.old self.new }
+        ensures leads { LeadsOnceEnded (Single (Motion time x y) Done.Motion) self.old self.new }
         ensures sides { IsAsLarge self.old.damage self.new.damage }
         ensures output { self.new.desk.kept.output ≡ self.old.desk.kept.output }
     {
@@ -38,7 +38,6 @@ impl<A: Allocator + Copy> Desk<A> {
         let (hit, is_stacked) = self.seen();
         let actions = self.pointer.went(time, hit, is_stacked);
         self.apply_all(&actions);
-        self.settle();
     }
 
     /// A toplevel goes along with the pointer, if it moves one. That is marked, and no more.

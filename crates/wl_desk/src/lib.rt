@@ -9,6 +9,7 @@ mod pointing;
 mod pressing;
 mod seating;
 mod seats;
+mod shown;
 
 pub use desks::Desk;
-pub use wl_clients::{ClientNo, ConnectError, Done, Fed, MAX_CLIENTS, Stored};
+pub use wl_clients::{ClientNo, ConnectError, Done, Fed, MAX_CLIENTS, ShownWindow, Stored};

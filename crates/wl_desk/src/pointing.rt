@@ -20,7 +20,7 @@ ghost use Rattle.wl_clients.specs.Marking.{MarksThrough};
 ghost use Rattle.wl_clients.specs.Feeding.{rest_in};
 ghost use Rattle.wl_clients.specs.Midway.{first_struck};
 ghost use Rattle.wl_desk.specs.Doing.{IsTellable, is_told};
-ghost use Rattle.wl_desk.specs.Midway.{IsMidway, IsOfFocus, IsTelling, IsToldOf, SettlesDown};
+ghost use Rattle.wl_desk.specs.Midway.{IsMidway, IsOfFocus, IsTelling, IsToldOf};
 ghost use Rattle.wl_desk.specs.Points.{point_told};
 ghost use Rattle.wl_desk.specs.Serials.{AreNoted, KeepsSerials, noted_by};
 ghost use Rattle.wl_desk.specs.View.{latest_of, seat_of};
@@ -31,11 +31,8 @@ use crate::desks::Desk;
 use crate::latest::note;
 use crate::seats::seat_of;
 use std::alloc::Allocator;
-use wl_clients::{ClientNo, MAX_CLIENTS, PointerEvent};
+use wl_clients::{ClientNo, PointerEvent};
 use wl_scene::{Action, Actions, Stacked, Target, fixed};
-
-/// How often the focus may have to be settled in a step: each time but the last ends a client.
-const SETTLINGS: usize = MAX_CLIENTS + 1;
 
 impl<A: Allocator + Copy> Desk<A> {
     /// The surface that the pointer hits, if it is anywhere.
@@ -139,7 +136,7 @@ impl<A: Allocator + Copy> Desk<A> {
         ensures output { self.new.desk.kept.output ≡ self.old.desk.kept.output }
     {
         self.enter_alone(target, pointer);
-        self.first_refused().is_none()
+        self.struck().is_none()
     }
 
     /// A new wl_pointer, and it alone, is told so.
@@ -322,8 +319,9 @@ impl<A: Allocator + Copy> Desk<A> {
         self.apply_each(actions.as_slice());
     }
 
-    /// The focus is settled once: where it moves, the surface that had it is left, and the one that the pointer hits is entered.
-    fn settle_once(&mut self)
+    /// The focus is settled once: where it moves, the surface that had it is left, and the one that the pointer hits is entered. Nothing is
+    /// marked. Who can't be told of it is to end (see [`Desk::struck`]), and then the focus is to be settled again.
+    pub fn settle(&mut self)
         ensures settles { (m : Midstep) → IsMidway self.old.desk m → (n : Midstep) × Settles m n × IsMidway self.new.desk n }
         ensures damage { self.new.damage ≡ self.old.damage }
         ensures rests { (c : ℕ) → length (rest_in c self.new.desk.kept) ≤ length (rest_in c self.old.desk.kept) }
@@ -334,28 +332,11 @@ impl<A: Allocator + Copy> Desk<A> {
         self.apply_all(&actions);
     }
 
-    /// The focus is settled, and each client that can't be told of it ends, one after another, and the focus is settled again. The windows
-    /// of those that end are marked, and no more.
-    pub(crate) fn settle(&mut self)
-        ensures settles { (m : Midstep) → IsMidway self.old.desk m → SettlesDown self.old self.new m }
-        ensures sides { IsAsLarge self.old.damage self.new.damage }
-        ensures rests { (c : ℕ) → length (rest_in c self.new.desk.kept) ≤ length (rest_in c self.old.desk.kept) }
-        ensures output { self.new.desk.kept.output ≡ self.old.desk.kept.output }
-    {
-        for _ in 0..SETTLINGS {
-            self.settle_once();
-            let Some(client) = self.first_refused() else {
-                return;
-            };
-            self.end_refused(client);
-        }
-    }
-
-    /// The focus is settled after a message, where nobody is to end yet. Where the client lives on and no windows were touched it is settled
-    /// still, and nothing is done.
+    /// The focus is settled once after a message. Where the client lives on and no windows were touched it is settled still, and nothing is done.
     pub(crate) fn settle_after(&mut self, lives: bool, touches_windows: bool)
-        ensures settles { (m : Midstep) → IsMidway self.old.desk m → m.struck ≡ []
-            → (lives ≡ true → touches_windows ≡ false → IsSettled m.desktop) → SettlesDown self.old self.new m }
+        ensures settles { (m : Midstep) → IsMidway self.old.desk m → (lives ≡ true → touches_windows ≡ false → IsSettled m.desktop)
+            → (n : Midstep) × Settles m n × IsMidway self.new.desk n }
+        ensures damage { self.new.damage ≡ self.old.damage }
         ensures sides { IsAsLarge self.old.damage self.new.damage }
         ensures rests { (c : ℕ) → length (rest_in c self.new.desk.kept) ≤ length (rest_in c self.old.desk.kept) }
         ensures output { self.new.desk.kept.output ≡ self.old.desk.kept.output }
@@ -366,16 +347,17 @@ impl<A: Allocator + Copy> Desk<A> {
         self.settle();
     }
 
-    /// The least number of a client that is to end since an event for it wasn't queued.
-    fn first_refused(&self) -> Option<ClientNo>
+    /// The least number of a client that is to end since an event for it wasn't queued. There are 32 numbers.
+    pub fn struck(&self) -> Option<ClientNo>
         ensures first { (m : Midstep) → IsTelling self.now.desk m → result ≡ first_struck m.struck }
         ensures count { length self.now.desk.kept.clients ≡ 32 }
     {
         self.clients.first_refused()
     }
 
-    /// The client that is to end first does, since an event for it wasn't queued, and the pointer leaves it.
-    pub(crate) fn end_refused(&mut self, client: ClientNo)
+    /// The client that is to end first does, for the cause for which an event wasn't queued, and the pointer leaves it. It is told nothing. Its
+    /// windows are marked, and no more. The focus is to be settled then.
+    pub fn end_struck(&mut self, client: ClientNo)
         ensures ends { (s : Strike) (ss : List Strike) (m : Midstep) → s.client ≡ client → m.struck ≡ s ∷ ss → IsMidway self.old.desk m
             → IsMidway self.new.desk (record { desktop = ended_by s m.desktop; struck = ss }) }
         ensures marks { (s : Strike) (ss : List Strike) (m : Midstep) → s.client ≡ client → m.struck ≡ s ∷ ss → IsMidway self.old.desk m

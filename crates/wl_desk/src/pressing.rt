@@ -10,12 +10,13 @@ ghost use Rattle.spec_desktop.specs.Happenings.{Single};
 ghost use Rattle.spec_desktop.specs.Happens.{hold_from, press_serial};
 ghost use Rattle.spec_desktop.specs.Settling.{Midstep, with_standing};
 ghost use Rattle.spec_desktop.specs.Stacked.{all_windows};
-ghost use Rattle.wl_desk.specs.Agreeing.{Agrees, LeadsBy};
+ghost use Rattle.wl_desk.specs.Agreeing.{Agrees};
 ghost use Rattle.wl_desk.specs.Midway.{IsTelling};
 ghost use Rattle.wl_clients.specs.Releasing.{MarksJust};
 ghost use Rattle.wl_desk.specs.Releasing.{Releases, released_by};
 ghost use Rattle.wl_clients.specs.Raising.{MarksChange, moved_up, raised_to};
 ghost use Rattle.wl_desk.specs.Restacking.{HasNumber};
+ghost use Rattle.wl_desk.specs.Ways.{LeadsOnceEnded};
 
 use crate::desks::Desk;
 use crate::seats::seat_of;
@@ -38,10 +39,10 @@ impl<A: Allocator + Copy> Desk<A> {
     /// A button, named by its code, is pressed or released at a time in milliseconds. The surface that has the focus is told of it
     /// (wayland.xml, wl_pointer.button). A press brings the toplevel that it hits to the top, and dismisses the popups with a grab of a client
     /// of which it hits no surface (xdg-shell.xml, xdg_popup.grab). A press of a button that is down, or of one past 16, and a release of one
-    /// that isn't down do nothing. The windows of each client that can't be told, and so ends, are marked, with those of a toplevel that came to
-    /// the top and of popups that were dismissed.
+    /// that isn't down do nothing. The windows of a toplevel that came to the top and of popups that were dismissed are marked. The focus is
+    /// settled once; who can't be told is to end (see [`Desk::struck`]).
     pub fn button(&mut self, time: u32, button: u32, pressed: bool)
-        ensures leads { LeadsBy (Single (Button time button pressed) Done.Button) self.old self.new }
+        ensures leads { LeadsOnceEnded (Single (Button time button pressed) Done.Button) self.old self.new }
         ensures sides { IsAsLarge self.old.damage self.new.damage }
         ensures output { self.new.desk.kept.output ≡ self.old.desk.kept.output }
     {
@@ -54,7 +55,7 @@ impl<A: Allocator + Copy> Desk<A> {
 
     /// A button is pressed.
     fn press(&mut self, time: u32, button: u32)
-        ensures leads { LeadsBy (Single (Button time button true) Done.Button) self.old self.new }
+        ensures leads { LeadsOnceEnded (Single (Button time button true) Done.Button) self.old self.new }
         ensures sides { IsAsLarge self.old.damage self.new.damage }
         ensures output { self.new.desk.kept.output ≡ self.old.desk.kept.output }
     {
@@ -74,7 +75,7 @@ impl<A: Allocator + Copy> Desk<A> {
 
     /// A button is released.
     fn release(&mut self, time: u32, button: u32)
-        ensures leads { LeadsBy (Single (Button time button false) Done.Button) self.old self.new }
+        ensures leads { LeadsOnceEnded (Single (Button time button false) Done.Button) self.old self.new }
         ensures sides { IsAsLarge self.old.damage self.new.damage }
         ensures output { self.new.desk.kept.output ≡ self.old.desk.kept.output }
     {

@@ -1,10 +1,8 @@
 -- How a count changes as a list of rectangles is walked through.
 use Rattle.std.proofs.Common.{◌≡◌, ℕ, ◌+◌, ◌<◌, ◌≤◌, ℤ, Bool, true, false, not, cond, ◌&&◌, List, [], ◌∷◌, ◌++◌, take, length, get_or, arith, pos, inl, inr, refl}
-use Rattle.std.specs.Prelude.{count_by, nat_lt, ◌||◌, ◌≤ℤ◌, ◌⊎◌}
-use Rattle.std.specs.List.{list_any}
-use Rattle.std.proofs.lemmas.Bool.Decides.{nat_tests}
+use Rattle.std.specs.Prelude.{◌≤ℤ◌, ◌⊎◌}
 use Rattle.std.proofs.lemmas.Int.{ints}
-use Rattle.std.proofs.lemmas.List.Sums.{sum_by_more, sum_by_push, sum_by-cons}
+use Rattle.std.proofs.lemmas.List.Sums.{sum_by_more, sum_by_push}
 use Rattle.wl_geom.specs.declared.rect.Rect.{Rect}
 use Rattle.wl_geom.specs.Rect.{in_rect, in_span, count_at, bit}
 
@@ -41,35 +39,6 @@ around-more true false n = refl
 around-more false true n = refl
 around-more false false n = refl
 
-any_cons : (b any : Bool) (n m : ℕ) → m ≡ bit b + n → any ≡ nat_lt 0 n → (b || any) ≡ nat_lt 0 m
-any_cons true any n m e h = grind (arith, nat_tests)
-any_cons false any n m e h = grind (arith, nat_tests)
-
--- a test that some element passes is a count above 0
-list_any-count : {X : Type 0} (p : X → Bool) (xs : List X) → list_any p xs ≡ nat_lt 0 (count_by p xs)
-list_any-count p [] = refl
-list_any-count p (x ∷ xs) = any_cons (p x) (list_any p xs) (count_by p xs) _ (sum_by-cons (λ z. bit (p z)) x xs) (list_any-count p xs)
-
--- where the count is one or nothing, the test says which
-pub list_any_is : {X : Type 0} (p : X → Bool) (xs : List X) (b : Bool) → count_by p xs ≡ bit b → list_any p xs ≡ b
-list_any_is p xs true e = rw (list_any-count p xs, e)
-list_any_is p xs false e = rw (list_any-count p xs, e)
-
 pub bit-small : (b : Bool) → bit b ≤ 1
 bit-small true = omega arith
 bit-small false = omega arith
-
--- a point outside of a hole, and one of the hole, that are counted once
-pub taken-small : (h : Bool) (n : ℕ) → n ≤ 1 → cond h 0 n ≤ 1
-taken-small true n l = omega arith
-taken-small false n l = l
-
-pub added-small : (h p : Bool) (n : ℕ) → n ≤ 1 → cond h 0 n + bit (p && h) ≤ 1
-added-small true true n l = omega arith
-added-small true false n l = omega arith
-added-small false true n l = omega arith
-added-small false false n l = omega arith
-
-pub bit-some : (b : Bool) → 1 ≤ bit b → b ≡ true
-bit-some true h = refl
-bit-some false h = absurd (omega arith)

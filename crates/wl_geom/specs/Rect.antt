@@ -1,5 +1,5 @@
 -- The points that rectangles contain.
-use Rattle.std.specs.Prelude.{ℕ, zero, suc, ◌+◌, ◌-◌, ◌^◌, ℤ, pos, negsuc, ◌+ℤ◌, int_le, int_lt, Bool, ◌&&◌, List, count_by, cond}
+use Rattle.std.specs.Prelude.{ℕ, ◌-◌, ◌^◌, ℤ, pos, negsuc, ◌+ℤ◌, int_le, int_lt, Bool, ◌&&◌, List, count_by, cond}
 use Rattle.wl_geom.specs.declared.rect.Rect.{Rect}
 
 -- at is one of the len numbers from start on
@@ -25,8 +25,3 @@ bit b = cond b 1 0
 -- how many of the rectangles contain the point
 abbrev pub count_at : ℤ → ℤ → List Rect → ℕ
 count_at x y rects = count_by (in_rect x y) rects
-
--- f 0 + f 1 + .. of the numbers below n
-abbrev pub sum_below : ℕ → (ℕ → ℕ) → ℕ
-sum_below zero f = 0
-sum_below (suc n) f = f n + sum_below n f

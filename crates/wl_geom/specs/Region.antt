@@ -25,23 +25,19 @@ Covers rects changes = (x y : ℤ) → count_at x y rects ≡ bit (holds x y cha
 abbrev pub AreDisjoint : List Rect → Type 0
 AreDisjoint rects = (x y : ℤ) → count_at x y rects ≤ 1
 
--- each of the w points from (x, y) to the right is in one of the rectangles
-abbrev pub CoverRun : ℤ → ℤ → ℕ → List Rect → Type 0
-CoverRun x y w rects = (i : ℕ) → i < w → 1 ≤ count_at (x +ℤ pos i) y rects
-
 -- a list of changes holds each of the w points from (x, y) to the right
 abbrev pub HoldsRun : ℤ → ℤ → ℕ → List Change → Type 0
 HoldsRun x y w changes = (i : ℕ) → i < w → holds (x +ℤ pos i) y changes ≡ true
 
--- what is seen of a region: its rectangles, and how many changes were made
+-- what is seen of a region: the changes that were made on it, and how many they are
 pub record Area : Type 0 where
-  pub rects : List Rect
+  pub made : List Change
   pub changes : ℕ
 
 -- the region stands for the list of the changes that were made on it
 pub record Stands (region : Area) (changes : List Change) : Type 0 where
   pub counted : region.changes ≡ length changes
-  pub covered : Covers region.rects changes
+  pub listed : region.made ≡ changes
 
 -- no edge of the rectangle is past the last coordinate
 pub record EndsInRange (r : Rect) : Type 0 where

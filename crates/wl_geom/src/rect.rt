@@ -1,7 +1,7 @@
-ghost use Rattle.std.specs.Prelude.{◌≡◌, ◌+ℤ◌, ◌<ℤ◌, ◌≤ℤ◌, ◌⊎◌, ◌↔◌, ◌&&◌, ℤ, IsTrue, false, pos};
-ghost use Rattle.wl_geom.specs.Rect.{bit, in_rect, sum_below};
+ghost use Rattle.std.specs.Prelude.{◌≡◌, ◌<◌, ◌≤◌, ◌+ℤ◌, ◌<ℤ◌, ◌≤ℤ◌, ◌⊎◌, ◌↔◌, ◌&&◌, ℕ, ℤ, IsTrue, true, false, pos};
+ghost use Rattle.wl_geom.specs.Rect.{in_rect};
 
-use crate::span::{count_in_span, end_of, is_in_span, may_meet};
+use crate::span::{count_before_span, count_in_span, end_of, is_in_span, may_meet};
 
 /// A rectangle of points: the columns from `x` to `x + w - 1` of the rows from `y` to `y + h - 1`.
 /// One whose width or height is not above 0 has no points.
@@ -21,9 +21,25 @@ impl Rect {
         is_in_span(self.x, self.w, x) && is_in_span(self.y, self.h, y)
     }
 
-    /// How many of the `count` points from (x, y) to the right are in it.
-    pub(crate) fn count_in_run(&self, x: i32, y: i32, count: u32) -> u32
-        ensures { result ≡ sum_below count (λ i. bit (in_rect (x +ℤ pos i) y self.now)) }
+    /// How many of the `count` points from (x, y) to the right come before the first that is in it.
+    pub(crate) fn count_before(&self, x: i32, y: i32, count: u32) -> u32
+        requires { 1 ≤ count }
+        ensures outside { (i : ℕ) → i < result → in_rect (x +ℤ pos i) y self.now ≡ false }
+        ensures stops { result ≡ 0 → in_rect x y self.now ≡ true }
+        ensures within { result ≤ count }
+    {
+        if !is_in_span(self.y, self.h, y) {
+            return count;
+        }
+        count_before_span(self.x, self.w, x, count)
+    }
+
+    /// How many of the `count` points from (x, y) to the right are in it, up to the first that isn't.
+    pub(crate) fn count_inside(&self, x: i32, y: i32, count: u32) -> u32
+        requires { 1 ≤ count }
+        ensures inside { (i : ℕ) → i < result → in_rect (x +ℤ pos i) y self.now ≡ true }
+        ensures stops { result ≡ 0 → in_rect x y self.now ≡ false }
+        ensures within { result ≤ count }
     {
         if !is_in_span(self.y, self.h, y) {
             return 0;

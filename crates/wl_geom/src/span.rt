@@ -1,8 +1,8 @@
 //! Spans of one coordinate: the `len` numbers from `start` on, none where `len` is not above 0.
 //! An end may lie past the last coordinate, so ends are computed in 64 bits.
 
-ghost use Rattle.std.specs.Prelude.{◌≡◌, ◌^◌, ◌<◌, ◌≤◌, ◌+ℤ◌, ◌-ℤ◌, ◌<ℤ◌, ◌≤ℤ◌, ◌&&◌, ℕ, ℤ, false, int_le, int_lt, nat_lt, pos};
-ghost use Rattle.wl_geom.specs.Rect.{bit, in_span, sum_below};
+ghost use Rattle.std.specs.Prelude.{◌≡◌, ◌^◌, ◌<◌, ◌≤◌, ◌+ℤ◌, ◌-ℤ◌, ◌<ℤ◌, ◌≤ℤ◌, ◌&&◌, ℕ, ℤ, true, false, int_le, int_lt, nat_lt, pos};
+ghost use Rattle.wl_geom.specs.Rect.{in_span};
 
 /// Whether `at` is in the span.
 pub(crate) fn is_in_span(start: i32, len: i32, at: i32) -> bool
@@ -81,11 +81,39 @@ fn count_before(from: i32, count: u32, line: i64) -> u32
     }
 }
 
-/// How many of the `count` numbers from `from` on are in the span.
-pub(crate) fn count_in_span(start: i32, len: i32, from: i32, count: u32) -> u32
-    ensures { result ≡ sum_below count (λ i. bit (in_span start len (from +ℤ pos i))) }
+/// How many of the `count` numbers from `from` on come before the first that is in the span.
+pub(crate) fn count_before_span(start: i32, len: i32, from: i32, count: u32) -> u32
+    requires { 1 ≤ count }
+    ensures outside { (i : ℕ) → i < result → in_span start len (from +ℤ pos i) ≡ false }
+    ensures stops { result ≡ 0 → in_span start len from ≡ true }
+    ensures within { result ≤ count }
 {
-    let before = count_before(from, count, i64::from(start));
-    let until = count_before(from, count, end_of(start, len));
-    until.saturating_sub(before)
+    if from < start {
+        count_before(from, count, i64::from(start))
+    } else if is_in_span(start, len, from) {
+        0
+    } else {
+        count
+    }
+}
+
+/// How many of the `count` numbers from `from` on are in the span, up to the first that isn't.
+pub(crate) fn count_in_span(start: i32, len: i32, from: i32, count: u32) -> u32
+    requires { 1 ≤ count }
+    ensures inside { (i : ℕ) → i < result → in_span start len (from +ℤ pos i) ≡ true }
+    ensures stops { result ≡ 0 → in_span start len from ≡ false }
+    ensures within { result ≤ count }
+{
+    if from < start {
+        return 0;
+    }
+    count_before(from, count, end_of(start, len))
+}
+
+/// The place that is so far from the start.
+pub(crate) fn place_after(start: i32, distance: u32) -> i32
+    requires { (start +ℤ pos distance) <ℤ pos (2 ^ 31) }
+    ensures { result ≡ start +ℤ pos distance }
+{
+    (i64::from(start) + i64::from(distance)) as i32
 }

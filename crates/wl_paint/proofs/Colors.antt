@@ -1,8 +1,10 @@
 -- The colours of pixels, part by part.
 use Rattle.std.proofs.Common.{◌≡◌, ℕ, zero, suc, ◌+◌, ◌*◌, ◌<◌, ◌≤◌, List, [], ◌∷◌, ◌++◌, length, take, drop, get_or, ◌-◌, ◌/◌, refl, ap, sym, ◌∙◌, append_assoc, append-nil, arith, length-set}
 use Rattle.std.specs.Prelude.{slice_set}
-use Rattle.std.proofs.lemmas.List.{take_more_set, length-drop, length-take-le, get_or-take, get_or-drop}
-use Rattle.std.proofs.Math.Nat.{mul-le-mul_left}
+use Rattle.std.proofs.lemmas.List.{take_more_set, take-take, length-drop, length-take-le, get_or-take, get_or-drop}
+use Rattle.std.proofs.lemmas.Simd.{length-chunk, get_or-chunk, pick_l_left, take_more_put_chunk}
+use Rattle.std.proofs.Math.Seq.{take-append-add}
+use lib.Lanes.{chunk, pick_l, put_chunk}
 use Rattle.wl_paint.specs.Image.{colors}
 
 -- three bytes more at the end of a front
@@ -59,11 +61,23 @@ colors-chunk done end pixels order within =
     ap (λ (n : ℕ). colors n pixels) (sym all) ∙ joined
     ∙ ap (λ (n : ℕ). colors done pixels ++ colors n (take (4 * end - 4 * done) (drop (4 * done) pixels))) (sym count)
 
--- the colours of one row more, of `width` pixels
-pub colors-row : (width height y : ℕ) (pixels : List ℕ) → y < height → length pixels ≡ 4 * (width * height)
-    → colors (width * (y + 1)) pixels ≡ colors (width * y) pixels
-    ++ colors (length (take (4 * (width * (y + 1)) - 4 * (width * y)) (drop (4 * (width * y)) pixels)) / 4) (take (4 * (width * (y + 1)) - 4 * (width * y)) (drop (4 * (width * y)) pixels))
-colors-row width height y pixels h sized =
-    let order : width * y ≤ width * (y + 1) = mul-le-mul_left width (omega arith) in
-    let within : width * (y + 1) ≤ width * height = mul-le-mul_left width (omega arith) in
-    colors-chunk (width * y) (width * (y + 1)) pixels order (omega (arith, sized, within))
+-- the places of red, green and blue of four pixels, and of what else they have
+abbrev pub color_places : List ℕ
+color_places = 2 ∷ 1 ∷ 0 ∷ 6 ∷ 5 ∷ 4 ∷ 10 ∷ 9 ∷ 8 ∷ 14 ∷ 13 ∷ 12 ∷ 3 ∷ 7 ∷ 11 ∷ 15 ∷ []
+
+-- four pixels more
+pub colors-four : (packed pixels : List ℕ) (first : ℕ) → 4 * (first + 4) ≤ length pixels → 3 * first + 16 ≤ length packed → take (3 * first) packed ≡ colors first pixels
+    → take (3 * (first + 4)) (put_chunk (3 * first) packed (pick_l 0 (chunk (4 * first) 16 pixels ++ chunk (4 * first) 16 pixels) color_places)) ≡ colors (first + 4) pixels
+colors-four packed pixels first there room is =
+    let four = chunk (4 * first) 16 pixels in
+    let some = pick_l 0 four color_places in
+    let new = put_chunk (3 * first) packed some in
+    let long : length four ≡ 16 = length-chunk (4 * first) 16 pixels (omega arith) in
+    let picked : pick_l 0 (four ++ four) color_places ≡ some = pick_l_left 0 four four 16 color_places long tt in
+    let whole : take (3 * first + 16) new ≡ take (3 * first) packed ++ some = take_more_put_chunk (3 * first) packed some (3 * first + 16) refl (omega arith) in
+    let front : length (take (3 * first) packed) ≡ 3 * first = length-take-le (3 * first) packed (omega arith) in
+    let end : 3 * (first + 4) ≡ length (take (3 * first) packed) + 12 = omega (arith, front) in
+    rw picked (sym (take-take (3 * (first + 4)) (3 * first + 16) new (omega arith)) ∙ ap (take (3 * (first + 4))) whole
+    ∙ ap (λ (n : ℕ). take n (take (3 * first) packed ++ some)) end ∙ take-append-add (take (3 * first) packed) some 12
+    ∙ ap (λ (t : List ℕ). t ++ take 12 some) is
+    ∙ sym (colors-append first 4 pixels four (λ k h. get_or-chunk (4 * first) 16 pixels k 0 (omega (arith, h)))))

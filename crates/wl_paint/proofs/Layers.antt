@@ -1,6 +1,6 @@
 -- Windows laid over a run, one after the other.
 use Rattle.std.proofs.Common.{◌≡◌, ℕ, ◌+◌, ◌-◌, ◌*◌, ◌<◌, ◌≤◌, ℤ, pos, ◌-ℤ◌, Bool, ◌&&◌, true, false, List, take, refl, sym, ◌∙◌, ap, arith, inl, inr}
-use Rattle.std.specs.Prelude.{slice_get, slice_index, Some, unsigned_abs, ◌/◌, ◌⊎◌, nat_lt, cond, ◌^◌}
+use Rattle.std.specs.Prelude.{slice_get, slice_index, Some, unsigned_abs, ◌/◌, ◌⊎◌, cond, ◌^◌}
 use Rattle.std.proofs.lemmas.Bool.{cases_lt}
 use Rattle.std.proofs.lemmas.Bool.Decides.{nat_tests}
 use Rattle.std.proofs.lemmas.Int.{ints}
@@ -9,7 +9,8 @@ use Rattle.std.proofs.lemmas.Option.{slice_get_within, get_or_from_slice_get}
 use Rattle.std.proofs.lemmas.List.Sums.{fold_more}
 use Rattle.wl_blend.specs.declared.color.Rgb.{Rgb}
 use Rattle.wl_blend.specs.Blend.{blended, color_of}
-use Rattle.wl_geom.specs.Rect.{count_at, in_span}
+use Rattle.wl_geom.specs.Rect.{in_span}
+use Rattle.wl_geom.specs.Region.{holds}
 use Rattle.wl_store.specs.Transform.{is_turned}
 use Rattle.wl_store.specs.Picture.{Shown, color_at, surface_height, surface_width}
 use Rattle.wl_paint.specs.Damage.{is_between}
@@ -85,24 +86,21 @@ hidden_pixel pixel promised w x y i j k under column is row down small e =
 distance-in : (start : ℤ) (len at n : ℕ) → in_span start (pos len) (pos at) ≡ true → unsigned_abs (pos at -ℤ start) ≡ n → pos at -ℤ start ≡ pos n
 distance-in start len at n inside e = grind (arith, ints, nat_tests)
 
-some-counted : (n : ℕ) → 1 ≤ n → nat_lt 0 n ≡ true
-some-counted n h = grind (arith, nat_tests)
-
 -- a point that the opaque region holds has the alpha that was promised
 promised-alpha : (w : Window) (x y i j : ℕ)
     → in_span w.x (pos (surface_width w.picture)) (pos x) ≡ true → unsigned_abs (pos x -ℤ w.x) ≡ i
     → in_span w.y (pos (surface_height w.picture)) (pos y) ≡ true → unsigned_abs (pos y -ℤ w.y) ≡ j
-    → 1 ≤ count_at (pos i) (pos j) w.opaque.rects → HasAlphaAsSaid (pos x) (pos y) w → (color_at w.picture i j).a ≡ 255
+    → holds (pos i) (pos j) w.opaque.made ≡ true → HasAlphaAsSaid (pos x) (pos y) w → (color_at w.picture i j).a ≡ 255
 promised-alpha w x y i j column right row down held promise =
     let there : (in_window (pos x) (pos y) w && is_said_opaque (pos x) (pos y) w) ≡ true
-    = rw (column, row, distance-in w.x _ x i column right, distance-in w.y _ y j row down) (some-counted _ held) in
+    = rw (column, row, distance-in w.x _ x i column right, distance-in w.y _ y j row down) held in
     rw (right, down) at (promise there)
 
 -- a pixel that shows the window's point where that is as opaque as was said
 pub said_pixel : (pixel : Rgb × ℕ) (w : Window) (x y i j k : ℕ) (under : Rgb)
     → in_span w.x (pos (surface_width w.picture)) (pos x) ≡ true → i ≡ unsigned_abs (pos x -ℤ w.x)
     → in_span w.y (pos (surface_height w.picture)) (pos y) ≡ true → j ≡ unsigned_abs (pos y -ℤ w.y)
-    → i + k < surface_width w.picture → 1 ≤ count_at (pos (i + k)) (pos j) w.opaque.rects
+    → i + k < surface_width w.picture → holds (pos (i + k)) (pos j) w.opaque.made ≡ true
     → Shows ((color_at w.picture (i + k) j).a ≡ 255) (blended under (color_at w.picture (i + k) j)) pixel
     → Shows (HasAlphaAsSaid (pos (x + k)) (pos y) w) (over (pos (x + k)) (pos y) under w) pixel
 said_pixel pixel w x y i j k under column is row down small held s =

@@ -9,6 +9,7 @@ pub mod Marks
 pub mod PaintedRows
 pub mod Parts
 pub mod PaintedRuns
+pub mod Wholes
 pub mod Written
 pub mod Zeros
 pub mod Filled

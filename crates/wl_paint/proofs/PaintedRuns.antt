@@ -4,7 +4,7 @@ use Rattle.std.specs.Prelude.{◌⊎◌}
 use Rattle.std.proofs.lemmas.Bool.{cases_lt, both_ways}
 use Rattle.wl_blend.specs.declared.color.Rgb.{Rgb}
 use Rattle.wl_paint.specs.Damage.{IsFirstPart}
-use Rattle.wl_paint.specs.Painting.{Shows}
+use Rattle.wl_paint.specs.Painting.{IsCopiedTo, Shows}
 use Rattle.wl_paint.proofs.Shown.{Shows-same}
 
 -- the row from base on is painted from column `first` up to `from`, where it is damaged, and the rest is as it was
@@ -65,4 +65,66 @@ IsPaintedTo-none was promised paint damaged base first end h = record {
   painted = λ x l b d. absurd (omega arith);
   kept = λ x l b d. absurd (omega arith);
   outside = λ k o. refl;
+}
+
+-- ---- the same of pixels that are put in
+
+pub IsCopiedTo-none : (was stretch : ℕ → Rgb × ℕ) (damaged : ℕ → Bool) (base first : ℕ) → IsCopiedTo was was stretch damaged base first first
+IsCopiedTo-none was stretch damaged base first = record {
+  order = omega arith;
+  copied = λ x l b d. absurd (omega arith);
+  kept = λ x l b d. absurd (omega arith);
+  outside = λ k o. refl;
+}
+
+pub IsCopiedTo-at : (was now next stretch : ℕ → Rgb × ℕ) (damaged : ℕ → Bool) (base first end from start count at place : ℕ)
+    → at ≡ base + start → place ≡ start - first → IsFirstPart damaged from end (start, count) → IsCopiedTo was now stretch damaged base first from
+    → ((i : ℕ) → i < count → next (at + i) ≡ stretch (place + i))
+    → ((k : ℕ) → (k < at) ⊎ (at + count ≤ k) → next k ≡ now k)
+    → IsCopiedTo was next stretch damaged base first (start + count)
+IsCopiedTo-at was now next stretch damaged base first end from start count at place e f part p inside outside = record {
+  order = omega (arith, part.starts, p.order);
+  copied = λ x l h d. elim (cases_lt x from) [
+    | inl b ↦ outside (base + x) (inl (omega (arith, e, part.starts))) ∙ p.copied x l b d
+    | inr g ↦ elim (cases_lt x start) [
+      | inl b ↦ absurd (both_ways (damaged x) (part.before x g b) d)
+      | inr s ↦
+          let here : base + x ≡ at + (x - start) = omega arith in
+          let there : place + (x - start) ≡ x - first = omega (arith, f, part.starts, p.order) in
+          ap next here ∙ inside (x - start) (omega arith) ∙ ap stretch there
+    ]
+  ];
+  kept = λ x l h d. elim (cases_lt x from) [
+    | inl b ↦ outside (base + x) (inl (omega (arith, e, part.starts))) ∙ p.kept x l b d
+    | inr g ↦ elim (cases_lt x start) [
+      | inl b ↦ outside (base + x) (inl (omega (arith, e))) ∙ p.outside (base + x) (inr (omega arith))
+      | inr s ↦ absurd (both_ways (damaged x) d (part.inside x s h))
+    ]
+  ];
+  outside = λ k h. outside k (elim h [ inl l ↦ inl (omega (arith, e, part.starts, p.order)) | inr g ↦ inr (omega (arith, e)) ])
+      ∙ p.outside k (elim h [ inl l ↦ inl l | inr g ↦ inr (omega (arith, part.starts, part.some)) ]);
+}
+
+-- behind the last run
+pub IsCopiedTo-rest : (was now stretch : ℕ → Rgb × ℕ) (damaged : ℕ → Bool) (base first end from : ℕ) → from ≤ end → IsCopiedTo was now stretch damaged base first from
+    → ((x : ℕ) → from ≤ x → x < end → damaged x ≡ false) → IsCopiedTo was now stretch damaged base first end
+IsCopiedTo-rest was now stretch damaged base first end from b p rest = record {
+  order = omega (arith, p.order);
+  copied = λ x l h d. elim (cases_lt x from) [ inl s ↦ p.copied x l s d | inr g ↦ absurd (both_ways (damaged x) (rest x g h) d) ];
+  kept = λ x l h d. elim (cases_lt x from) [ inl s ↦ p.kept x l s d | inr g ↦ p.outside (base + x) (inr (omega arith)) ];
+  outside = λ k h. p.outside k (elim h [ inl l ↦ inl l | inr g ↦ inr (omega arith) ]);
+}
+
+-- where the stretch was painted, so is the row
+pub IsPaintedTo-copied : (was now stretch : ℕ → Rgb × ℕ) (promised : ℕ → Type 0) (paint : ℕ → Rgb) (damaged : ℕ → Bool) (base first end : ℕ)
+    → ((i : ℕ) → i < end - first → Shows (promised (first + i)) (paint (first + i)) (stretch i))
+    → IsCopiedTo was now stretch damaged base first end → IsPaintedTo was now promised paint damaged base first end end
+IsPaintedTo-copied was now stretch promised paint damaged base first end shown p = record {
+  starts = p.order;
+  bound = omega arith;
+  painted = λ x l h d.
+      (let place : first + (x - first) ≡ x = omega arith in
+      Shows-same (promised x) (paint x) _ _ (p.copied x l h d) (rw place at (shown (x - first) (omega arith))));
+  kept = p.kept;
+  outside = p.outside;
 }

@@ -19,7 +19,7 @@ byte_after a n k xs ys h l b = search (rules, places)
 
 -- ---- pixels
 
-pixel-same : (xs ys : List ℕ) (k l : ℕ) → ((b : ℕ) → b < 4 → get_or xs (4 * k + b) 0 ≡ get_or ys (4 * l + b) 0) → pixel_of xs k ≡ pixel_of ys l
+pub pixel-same : (xs ys : List ℕ) (k l : ℕ) → ((b : ℕ) → b < 4 → get_or xs (4 * k + b) 0 ≡ get_or ys (4 * l + b) 0) → pixel_of xs k ≡ pixel_of ys l
 pixel-same xs ys k l same =
     let left : 4 * k + 0 ≡ 4 * k = omega arith in
     let right : 4 * l + 0 ≡ 4 * l = omega arith in
@@ -54,12 +54,15 @@ part-outside xs ys first count k h l (inr after) =
     let long = l ∙ length-part xs first count h in
     pixel-same (put_mid (4 * first) n xs ys) xs k k (λ b small. byte_after (4 * first) n (4 * k + b) xs ys (omega arith) (omega (arith, long)) (omega (arith, small)))
 
--- the colour that it had
-pub part-color : (xs : List ℕ) (first count i : ℕ) → i < count → color_of (take (4 * (first + count) - 4 * first) (drop (4 * first) xs)) i ≡ color_of xs (first + i)
-part-color xs first count i in_part =
+-- the pixel that it had
+pub part-pixel : (xs : List ℕ) (first count i : ℕ) → i < count → pixel_of (take (4 * (first + count) - 4 * first) (drop (4 * first) xs)) i ≡ pixel_of xs (first + i)
+part-pixel xs first count i in_part =
     let n = 4 * (first + count) - 4 * first in
     let part = take n (drop (4 * first) xs) in
-    let same = pixel-same part xs i (first + i) (λ b small.
+    pixel-same part xs i (first + i) (λ b small.
     (let place : 4 * first + (4 * i + b) ≡ 4 * (first + i) + b = omega arith in
-    get_or-take n (drop (4 * first) xs) (4 * i + b) 0 (omega (arith, small)) ∙ get_or-drop (4 * first) xs (4 * i + b) 0 ∙ ap (λ (u : ℕ). get_or xs u 0) place)) in
-    ap (λ p. p.0) same
+    get_or-take n (drop (4 * first) xs) (4 * i + b) 0 (omega (arith, small)) ∙ get_or-drop (4 * first) xs (4 * i + b) 0 ∙ ap (λ (u : ℕ). get_or xs u 0) place))
+
+-- the colour that it had
+pub part-color : (xs : List ℕ) (first count i : ℕ) → i < count → color_of (take (4 * (first + count) - 4 * first) (drop (4 * first) xs)) i ≡ color_of xs (first + i)
+part-color xs first count i in_part = ap (λ p. p.0) (part-pixel xs first count i in_part)

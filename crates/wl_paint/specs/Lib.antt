@@ -1,3 +1,4 @@
+pub mod Blocks
 pub mod Damage
 pub mod Frame
 pub mod Image

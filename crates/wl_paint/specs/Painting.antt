@@ -1,5 +1,5 @@
 -- What is seen of a window that is lent, and images of which a part is painted.
-use Rattle.std.specs.Prelude.{◌≡◌, ℕ, ◌+◌, ◌*◌, ◌<◌, ℤ, pos, ◌-ℤ◌, unsigned_abs, ◌&&◌, Bool, true, false, List, slice_index, Option, Some}
+use Rattle.std.specs.Prelude.{◌≡◌, ℕ, ◌+◌, ◌-◌, ◌*◌, ◌<◌, ◌≤◌, ◌⊎◌, ℤ, pos, ◌-ℤ◌, unsigned_abs, ◌&&◌, Bool, true, false, List, slice_index, Option, Some}
 use Rattle.std.specs.Prelude.{None}
 use Rattle.wl_geom.specs.Rect.{in_span}
 use Rattle.wl_blend.specs.declared.color.Rgb.{Rgb}
@@ -31,6 +31,13 @@ pub record IsPaintedIn (was now : ℕ → Rgb × ℕ) (promised : ℕ → ℕ �
     → Bool) : Type 0 where
   pub painted : (x y : ℕ) → x < width → (chosen x y && damaged x y) ≡ true → Shows (promised x y) (paint x y) (now (y * width + x))
   pub kept : (x y : ℕ) → x < width → (chosen x y && damaged x y) ≡ false → now (y * width + x) ≡ was (y * width + x)
+
+-- the row from base on has, from column `first` up to `end`, the pixels of the stretch where it is damaged, and all others are as they were
+pub record IsCopiedTo (was now stretch : ℕ → Rgb × ℕ) (damaged : ℕ → Bool) (base first end : ℕ) : Type 0 where
+  pub order : first ≤ end
+  pub copied : (x : ℕ) → first ≤ x → x < end → damaged x ≡ true → now (base + x) ≡ stretch (x - first)
+  pub kept : (x : ℕ) → first ≤ x → x < end → damaged x ≡ false → now (base + x) ≡ was (base + x)
+  pub outside : (k : ℕ) → (k < base + first) ⊎ (base + end ≤ k) → now k ≡ was k
 
 -- the points of these columns and these rows
 abbrev pub is_in : Span → Span → ℕ → ℕ → Bool

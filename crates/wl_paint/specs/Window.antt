@@ -1,7 +1,7 @@
 -- Windows, and the colour of a point under a list of them.
-use Rattle.std.specs.Prelude.{◌≡◌, ℤ, pos, ◌-ℤ◌, unsigned_abs, nat_lt, List, All, fold, Bool, true, cond, ◌&&◌}
-use Rattle.wl_geom.specs.Rect.{in_span, count_at}
-use Rattle.wl_geom.specs.Region.{Area}
+use Rattle.std.specs.Prelude.{◌≡◌, ℤ, pos, ◌-ℤ◌, unsigned_abs, List, All, fold, Bool, true, cond, ◌&&◌}
+use Rattle.wl_geom.specs.Rect.{in_span}
+use Rattle.wl_geom.specs.Region.{Area, holds}
 use Rattle.wl_store.specs.declared.color.Argb.{Argb}
 use Rattle.wl_store.specs.Picture.{Shown, color_at, surface_width, surface_height}
 use Rattle.wl_blend.specs.declared.color.Rgb.{Rgb}
@@ -35,7 +35,7 @@ scratch background windows x y = fold (over x y) background windows
 
 -- the window's opaque region holds the point
 abbrev pub is_said_opaque : ℤ → ℤ → Window → Bool
-is_said_opaque x y w = nat_lt 0 (count_at (x -ℤ w.x) (y -ℤ w.y) w.opaque.rects)
+is_said_opaque x y w = holds (x -ℤ w.x) (y -ℤ w.y) w.opaque.made
 
 -- where the window contains the point and its opaque region holds it, it has the alpha 255 there
 abbrev pub HasAlphaAsSaid : ℤ → ℤ → Window → Type 0

@@ -1,6 +1,7 @@
 -- Rows of points that are marked by the bits of words.
-use Rattle.std.specs.Prelude.{◌≡◌, ◌+◌, ◌*◌, ◌/◌, ◌%◌, ◌<◌, ◌≤◌, ℕ, zero, suc, Bool, false, ◌==◌, List, [], ◌∷◌, length, slice_index}
+use Rattle.std.specs.Prelude.{◌≡◌, ◌+◌, ◌*◌, ◌/◌, ◌%◌, ◌<◌, ◌≤◌, ℕ, zero, suc, Bool, true, false, ◌==◌, List, [], ◌∷◌, length, slice_index}
 use Rattle.std.specs.Int.{bit_at}
+use Rattle.wl_paint.specs.declared.span.Span.{Span}
 use Rattle.wl_paint.specs.Damage.{count_below}
 
 -- bit i of the word is 1
@@ -22,3 +23,7 @@ pub record IsRow (width : ℕ) (words : List ℕ) (count : ℕ) : Type 0 where
   pub tight : 64 * length words < width + 64
   pub clear : (x : ℕ) → width ≤ x → is_marked words x ≡ false
   pub counted : count ≡ count_below (64 * length words) (is_marked words)
+
+-- each point of these columns is marked
+abbrev pub IsWhole : List ℕ → Span → Type 0
+IsWhole words columns = (x : ℕ) → columns.first ≤ x → x < columns.end → is_marked words x ≡ true

@@ -1,29 +1,34 @@
 ghost use Rattle.std.specs.Prelude.{◌≡◌, ◌<◌, ◌≤◌, ◌||◌, ◌&&◌, ℕ, [], false, pos, length, slice_index_or, IsTrue, IfOk, IfSome, IfNone};
 ghost use Rattle.wl_geom.specs.Rect.{in_rect};
+ghost use Rattle.wl_paint.specs.Blocks.{is_in_block};
 ghost use Rattle.wl_paint.specs.Damage.{GivesRun, IsFirstPart, count_points, has, is_between, marked};
 
 use crate::row::Row;
-use crate::span::{Span, clipped};
+use crate::span::{Block, Span, clipped};
 use std::alloc::{AllocError, Allocator};
 use std::marker::Model;
 use wl_geom::Rect;
 
 /// Which points of an output are to be painted again. Only `new` takes memory.
+///
+/// It knows a block all of whose points are damaged: what lies in it is not marked again.
 #[derive(Drop)]
 pub struct Damage<A: Allocator> {
     width: u32,
     height: u32,
     rows: Vec<Row<A>, A>,
+    whole: Block,
 }
 
 impl<A: Allocator> Model for Damage<A> {
+    ghost use Rattle.wl_paint.specs.Blocks.{IsMarkedIn};
     ghost use Rattle.wl_paint.specs.Damage.{Damaged, IsDamage};
 
     ghost Value = { Damaged };
 
     ghost view = { λ d. record { width = d.width; height = d.height; rows = d.rows.items } };
 
-    ghost invariant = { λ d. IsDamage (record { width = d.width; height = d.height; rows = d.rows.items }) };
+    ghost invariant = { λ d. IsDamage (record { width = d.width; height = d.height; rows = d.rows.items }) × IsMarkedIn d.rows.items d.whole };
 }
 
 impl<A: Allocator + Copy> Damage<A> {
@@ -43,6 +48,7 @@ impl<A: Allocator + Copy> Damage<A> {
             width,
             height,
             rows,
+            whole: Block::NONE,
         })
     }
 }
@@ -79,7 +85,12 @@ impl<A: Allocator> Damage<A> {
     {
         let (left, right) = clipped(rect.x, rect.w, self.width);
         let (top, bottom) = clipped(rect.y, rect.h, self.height);
+        let block = block_of(left, right, top, bottom);
+        if self.whole.has_all(block) {
+            return;
+        }
         mark_rows(&mut self.rows, top, bottom, left, right);
+        self.whole = self.whole.larger(block);
     }
 
     /// How many points are damaged.
@@ -100,6 +111,7 @@ impl<A: Allocator> Damage<A> {
         ensures height { self.new.height ≡ self.old.height }
     {
         clear_rows(&mut self.rows);
+        self.whole = Block::NONE;
     }
 
     /// The width of the output in pixels.
@@ -159,6 +171,22 @@ pub(crate) fn is_clear<A: Allocator>(damage: &Damage<A>, rows: Span) -> bool
         }
     }
     true
+}
+
+/// The columns from `left` up to `right` of the rows from `top` up to `bottom`.
+fn block_of(left: u32, right: u32, top: u32, bottom: u32) -> Block
+    ensures { (x y : ℕ) → is_in_block x y result ≡ (is_between left right x && is_between top bottom y) }
+{
+    Block {
+        columns: Span {
+            first: left,
+            end: right,
+        },
+        rows: Span {
+            first: top,
+            end: bottom,
+        },
+    }
 }
 
 fn clear_rows<A: Allocator>(rows: &mut [Row<A>])

@@ -19,9 +19,9 @@ pub const MAX_SIDE: u32 = 4096;
 pub enum FrameError {
     /// A side is 0 or above `MAX_SIDE`.
     #[error("a side is 0 or above 4096")]
-    BadSize,
+    BadSize = 1,
     #[error("out of memory")]
-    Memory,
+    Memory = 2,
 }
 
 /// An image of 4 bytes a pixel, blue, green, red and 255, row by row from the top. It keeps its

@@ -1,6 +1,6 @@
 //! One window laid over a run of pixels.
 ghost use Rattle.std.specs.Prelude.{◌≡◌, ◌-◌, ◌<◌, ◌≤◌, ◌+◌, ◌*◌, ◌/◌, ◌%◌, ◌^◌, ◌⊎◌, ℕ, IsTrue, IfSome, length, pos, slice_index};
-ghost use Rattle.wl_geom.specs.Region.{CoverRun};
+ghost use Rattle.wl_geom.specs.Region.{HoldsRun};
 ghost use Rattle.wl_store.specs.Picture.{color_at, surface_height, surface_width};
 ghost use Rattle.wl_blend.specs.Blend.{blended, color_of};
 ghost use Rattle.wl_blend.specs.declared.color.Rgb.{Rgb};
@@ -16,8 +16,8 @@ use wl_store::Picture;
 /// How many pixels of a run are painted at a time, at most.
 pub(crate) const STRETCH: usize = 1024;
 
-/// An opaque region of more rectangles than this isn't asked, but the alphas are looked at: each stretch would look at all of them.
-const ASKED_RECTS: usize = 1024;
+/// An opaque region of more changes than this isn't asked, but the alphas are looked at: each stretch would look at all of them.
+const ASKED_CHANGES: u32 = 16;
 
 /// How far the place is from the start, where it is one of the `len` places from there on.
 fn offset_in(start: i32, len: u32, place: u32) -> Option<u32>
@@ -34,10 +34,9 @@ fn offset_in(start: i32, len: u32, place: u32) -> Option<u32>
 fn is_said_opaque<A: Allocator>(window: &Painted<'_, A>, i: u32, j: u32, count: u32) -> bool
     requires column { i < 2 ^ 31 }
     requires row { j < 2 ^ 31 }
-    ensures { IsTrue result → CoverRun (pos i) (pos j) count (window_of window.now).opaque.rects }
+    ensures { IsTrue result → HoldsRun (pos i) (pos j) count (window_of window.now).opaque.made }
 {
-    window.opaque.rects().len() <= ASKED_RECTS
-        && window.opaque.covers_run(i as i32, j as i32, count)
+    window.opaque.changes() <= ASKED_CHANGES && window.opaque.covers_run(i as i32, j as i32, count)
 }
 
 /// Paints a run of pixels that starts at (x, y) with the window alone, where it hides all below it there: where its

@@ -5,11 +5,12 @@
 //! the image as a file.
 #![tactic(auto)]
 
+mod copying;
 mod damage;
+mod filling;
 mod framebuffer;
 mod layer;
 mod painting;
-mod pixel;
 mod ppm;
 mod row;
 mod source;

@@ -1,11 +1,12 @@
 ghost use Rattle.std.specs.Prelude.{◌≡◌, ◌<◌, ◌≤◌, ◌+◌, ◌*◌, ◌%◌, ◌^◌, ◌⊎◌, ℕ, length, take, pos, true, false};
 ghost use Rattle.wl_paint.specs.Damage.{has};
-ghost use Rattle.wl_paint.specs.Painting.{IsPaintedIn, Shows, is_in, opaque, pixel_of};
+ghost use Rattle.wl_paint.specs.Painting.{IsPaintedIn, Shows, is_in, pixel_of};
 ghost use Rattle.wl_paint.specs.Window.{AreOpaqueAsSaid, scratch};
 
+use crate::copying::{copy_runs, has_many_runs, number_of};
 use crate::damage::{Damage, is_clear, next_part};
+use crate::filling::fill_run;
 use crate::layer::{STRETCH, hide, lay_window};
-use crate::pixel::write_color;
 use crate::span::{Part, Span};
 use crate::windows::Windows;
 use std::alloc::Allocator;
@@ -19,16 +20,6 @@ const BAND: u32 = 16;
 pub(crate) struct Layers<'a, W: Windows> {
     pub background: Rgb,
     pub windows: &'a W,
-}
-
-/// Fills a run of pixels with one colour.
-fn fill_run(run: &mut [u8], color: Rgb)
-    requires { length run.old % 4 ≡ 0 }
-    ensures { (i : ℕ) → 4 * i < length run.old → pixel_of run.new i ≡ opaque color }
-{
-    for i in 0..run.len() / 4 {
-        write_color(run, i, color);
-    }
 }
 
 /// Paints a run of pixels that starts at (x, y) by the windows up to the highest that hides all below it there, or
@@ -82,16 +73,8 @@ fn paint_part<W: Windows>(pixels: &mut [u8], part: Part, x: u32, y: u32, layers:
     paint_run(&mut pixels[4 * part.first..4 * end], x, y, layers);
 }
 
-/// The number of the pixel in column `x` of row `y`.
-fn number_of<A: Allocator>(damage: &Damage<A>, x: u32, y: u32) -> usize
-    requires { damage.now.width ≤ 4096 }
-    ensures { result ≡ y * damage.now.width + x }
-{
-    y as usize * damage.width() as usize + x as usize
-}
-
-/// Paints the damaged pixels of row `y` in these columns.
-fn paint_row<A: Allocator, W: Windows>(
+/// Paints the damaged pixels of row `y` in these columns, run by run.
+fn paint_runs<A: Allocator, W: Windows>(
     pixels: &mut [u8],
     y: u32,
     columns: Span,
@@ -118,6 +101,59 @@ fn paint_row<A: Allocator, W: Windows>(
         };
         paint_part(pixels, part, start, y, layers);
         from = start + count;
+    }
+}
+
+/// Paints row `y` in these columns beside the image, and puts its damaged pixels in. So the windows are asked once, and not for each run.
+fn paint_together<A: Allocator, W: Windows>(
+    pixels: &mut [u8],
+    y: u32,
+    columns: Span,
+    damage: &Damage<A>,
+    layers: &Layers<'_, W>,
+)
+    requires sized { length pixels.old ≡ 4 * (damage.now.width * damage.now.height) }
+    requires narrow { damage.now.width ≤ 4096 }
+    requires low { damage.now.height ≤ 4096 }
+    requires row { y < damage.now.height }
+    requires order { columns.first ≤ columns.end }
+    requires within { columns.end ≤ damage.now.width }
+    requires short { columns.end ≤ columns.first + STRETCH }
+    ensures { IsPaintedIn (pixel_of pixels.old) (pixel_of pixels.new)
+        (λ x z. AreOpaqueAsSaid (pos x) (pos z) (W.windows layers.now.windows.now))
+        (λ x z. scratch layers.now.background (W.windows layers.now.windows.now) (pos x) (pos z))
+        (has damage.now) damage.now.width (is_in columns (record { first = y; end = y + 1 })) }
+{
+    let mut stretch = [0; 4 * STRETCH];
+    let stretch = &mut stretch[..4 * (columns.end - columns.first) as usize];
+    paint_run(stretch, columns.first, y, layers);
+    copy_runs(pixels, y, columns, damage, stretch);
+}
+
+/// Paints the damaged pixels of row `y` in these columns.
+fn paint_row<A: Allocator, W: Windows>(
+    pixels: &mut [u8],
+    y: u32,
+    columns: Span,
+    damage: &Damage<A>,
+    layers: &Layers<'_, W>,
+)
+    requires sized { length pixels.old ≡ 4 * (damage.now.width * damage.now.height) }
+    requires narrow { damage.now.width ≤ 4096 }
+    requires low { damage.now.height ≤ 4096 }
+    requires row { y < damage.now.height }
+    requires order { columns.first ≤ columns.end }
+    requires within { columns.end ≤ damage.now.width }
+    requires short { columns.end ≤ columns.first + STRETCH }
+    ensures { IsPaintedIn (pixel_of pixels.old) (pixel_of pixels.new)
+        (λ x z. AreOpaqueAsSaid (pos x) (pos z) (W.windows layers.now.windows.now))
+        (λ x z. scratch layers.now.background (W.windows layers.now.windows.now) (pos x) (pos z))
+        (has damage.now) damage.now.width (is_in columns (record { first = y; end = y + 1 })) }
+{
+    if has_many_runs(damage, y, columns) {
+        paint_together(pixels, y, columns, damage, layers);
+    } else {
+        paint_runs(pixels, y, columns, damage, layers);
     }
 }
 

@@ -1,27 +1,30 @@
 ghost use Rattle.std.specs.Prelude.{◌≡◌, ◌+◌, ◌≤◌, ◌<◌, ◌||◌, ℕ, length, false, IfOk};
 ghost use Rattle.wl_paint.specs.Damage.{GivesRun, count_below, is_between, marked};
 
-use crate::words::{has_mark, mark_span, run_from, unmark, unmarked};
+use crate::span::Span;
+use crate::words::{has_mark, mark_around, run_from, unmark, unmarked};
 use std::alloc::{AllocError, Allocator};
 use std::marker::Model;
 
-/// Which points of one row are damaged, with their number. Each is a bit of a word.
+/// Which points of one row are damaged, with their number. Each is a bit of a word. It knows columns all of which are damaged:
+/// those are not marked again.
 #[derive(Drop)]
 pub(crate) struct Row<A: Allocator> {
     words: Vec<u64, A>,
     width: u32,
     count: u32,
+    whole: Span,
 }
 
 impl<A: Allocator> Model for Row<A> {
     ghost use Rattle.std.specs.Prelude.{List, Bool};
-    ghost use Rattle.wl_paint.specs.Words.{IsRow, marks_from};
+    ghost use Rattle.wl_paint.specs.Words.{IsRow, IsWhole, marks_from};
 
     ghost Value = { List Bool };
 
     ghost view = { λ r. marks_from r.words.items 0 r.width };
 
-    ghost invariant = { λ r. IsRow r.width r.words.items r.count };
+    ghost invariant = { λ r. IsRow r.width r.words.items r.count × IsWhole r.words.items r.whole };
 }
 
 impl<A: Allocator> Row<A> {
@@ -35,6 +38,7 @@ impl<A: Allocator> Row<A> {
             words,
             width,
             count: 0,
+            whole: Span::NONE,
         })
     }
 
@@ -52,7 +56,8 @@ impl<A: Allocator> Row<A> {
         ensures points { (x : ℕ) → marked self.new x ≡ (marked self.old x || is_between first end x) }
         ensures width { length self.new ≡ length self.old }
     {
-        self.count += mark_span(&mut self.words, first, end);
+        self.count += mark_around(&mut self.words, first, end, self.whole);
+        self.whole = self.whole.joined(Span { first, end });
     }
 
     pub(crate) fn count(&self) -> u32
@@ -69,6 +74,7 @@ impl<A: Allocator> Row<A> {
         if self.count > 0 {
             unmark(&mut self.words);
             self.count = 0;
+            self.whole = Span::NONE;
         }
     }
 

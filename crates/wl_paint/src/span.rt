@@ -1,6 +1,7 @@
-ghost use Rattle.std.specs.Prelude.{◌≡◌, ℕ, ℤ, ◌+◌, ◌+ℤ◌, ◌-ℤ◌, ◌<◌, ◌≤◌, pos, int_lt, nat_lt};
+ghost use Rattle.std.specs.Prelude.{◌≡◌, ◌||◌, IsTrue, true, ℕ, ℤ, ◌+◌, ◌+ℤ◌, ◌-ℤ◌, ◌<◌, ◌≤◌, pos, int_lt, nat_lt};
 ghost use Rattle.wl_geom.specs.Rect.{in_span};
 ghost use Rattle.wl_paint.specs.Damage.{is_between};
+ghost use Rattle.wl_paint.specs.Blocks.{is_in_block};
 
 /// A part of a list of pixels: `count` of them, from pixel `first` on.
 #[derive(Clone, Copy)]
@@ -14,6 +15,77 @@ pub(crate) struct Part {
 pub(crate) struct Span {
     pub first: u32,
     pub end: u32,
+}
+
+impl Span {
+    /// No columns or rows.
+    pub(crate) const NONE: Span = Span { first: 0, end: 0 };
+
+    /// How many there are.
+    fn len(&self) -> u32 {
+        self.end.saturating_sub(self.first)
+    }
+
+    /// Both, where they touch, else the longer of the two.
+    pub(crate) fn joined(self, other: Span) -> Span
+        ensures { (at : ℕ) → is_between result.first result.end at ≡ true
+            → (is_between self.first self.end at || is_between other.first other.end at) ≡ true }
+    {
+        if self.first <= other.end && other.first <= self.end {
+            Span {
+                first: self.first.min(other.first),
+                end: self.end.max(other.end),
+            }
+        } else if self.len() < other.len() {
+            other
+        } else {
+            self
+        }
+    }
+
+    /// Whether all of the other lies in it.
+    fn has_all(&self, other: Span) -> bool
+        ensures { IsTrue result → (at : ℕ) → is_between other.first other.end at ≡ true → is_between self.now.first self.now.end at ≡ true }
+    {
+        self.first <= other.first && other.end <= self.end
+    }
+}
+
+/// The points in both the columns and the rows.
+#[derive(Clone, Copy)]
+pub(crate) struct Block {
+    pub columns: Span,
+    pub rows: Span,
+}
+
+impl Block {
+    /// No points.
+    pub(crate) const NONE: Block = Block {
+        columns: Span::NONE,
+        rows: Span::NONE,
+    };
+
+    /// Whether all of the other lies in it.
+    pub(crate) fn has_all(&self, other: Block) -> bool
+        ensures { IsTrue result → (x y : ℕ) → is_in_block x y other ≡ true → is_in_block x y self.now ≡ true }
+    {
+        self.columns.has_all(other.columns) && self.rows.has_all(other.rows)
+    }
+
+    /// The one of more points.
+    pub(crate) fn larger(self, other: Block) -> Block
+        ensures { (x y : ℕ) → is_in_block x y result ≡ true → (is_in_block x y self || is_in_block x y other) ≡ true }
+    {
+        if self.area() < other.area() {
+            other
+        } else {
+            self
+        }
+    }
+
+    fn area(&self) -> u64 {
+        u64::from(self.columns.len()) * u64::from(self.rows.len())
+    }
 }
 
 /// The place, or the nearest from 0 to `size`.

@@ -1,8 +1,9 @@
 //! Points that are marked by the bits of words, 64 a word.
 ghost use Rattle.std.specs.Prelude.{◌≡◌, ◌≢◌, ◌+◌, ◌-◌, ◌*◌, ◌/◌, ◌^◌, ◌≤◌, ◌<◌, ◌||◌, ℕ, length, cond, not, false, true, slice_index, IfOk};
 ghost use Rattle.wl_paint.specs.Damage.{GivesRun, count_below, is_between};
-ghost use Rattle.wl_paint.specs.Words.{is_marked, is_set};
+ghost use Rattle.wl_paint.specs.Words.{IsWhole, is_marked, is_set};
 
+use crate::span::Span;
 use std::alloc::{AllocError, Allocator};
 
 /// Words for so many points, of which none is marked.
@@ -95,7 +96,7 @@ fn mark_in_word(words: &mut [u64], k: usize, first: u32, end: u32) -> u32
 }
 
 /// Marks the points from `first` up to `end`, and says how many more are marked.
-pub(crate) fn mark_span(words: &mut [u64], first: u32, end: u32) -> u32
+fn mark_span(words: &mut [u64], first: u32, end: u32) -> u32
     requires order { first ≤ end }
     requires within { end ≤ 64 * length words.old }
     requires narrow { length words.old ≤ 64 }
@@ -110,6 +111,34 @@ pub(crate) fn mark_span(words: &mut [u64], first: u32, end: u32) -> u32
         more += mark_in_word(words, k, first, end);
     }
     more
+}
+
+/// The part of the points from `first` up to `end` that lies in `whole`, by its start and its end.
+fn part_between(whole: Span, first: u32, end: u32) -> (u32, u32)
+    requires { first ≤ end }
+    ensures from { first ≤ result.0 }
+    ensures order { result.0 ≤ result.1 }
+    ensures within { result.1 ≤ end }
+    ensures starts { result.0 < result.1 → whole.first ≤ result.0 }
+    ensures ends { result.0 < result.1 → result.1 ≤ whole.end }
+{
+    let low = whole.first.max(first).min(end);
+    let high = whole.end.max(low).min(end);
+    (low, high)
+}
+
+/// Marks the points from `first` up to `end`, of which those of `whole` are marked already, and says how many more are marked.
+pub(crate) fn mark_around(words: &mut [u64], first: u32, end: u32, whole: Span) -> u32
+    requires order { first ≤ end }
+    requires within { end ≤ 64 * length words.old }
+    requires narrow { length words.old ≤ 64 }
+    requires whole { IsWhole words.old whole }
+    ensures points { (x : ℕ) → is_marked words.new x ≡ (is_marked words.old x || is_between first end x) }
+    ensures counted { result + count_below (64 * length words.old) (is_marked words.old) ≡ count_below (64 * length words.old) (is_marked words.new) }
+{
+    let (low, high) = part_between(whole, first, end);
+    let before = mark_span(words, first, low);
+    before + mark_span(words, high, end)
 }
 
 /// The word, or, where bits of 0 are wanted, its complement.

@@ -98,6 +98,7 @@ served-by words found serve same asked = record {
   dir = asked.dir ∙ ap (λ value. unwrap_or value (codes ".")) (sym (same (codes "dir")));
   ppm = asked.ppm ∙ sym (same (codes "ppm"));
   pointer = asked.pointer ∙ sym (same (codes "pointer"));
+  viewer = asked.viewer ∙ sym (same (codes "viewer"));
 }
 
 -- what is wrong with the values that the getters find is wrong with the words

@@ -1,5 +1,5 @@
 -- How the program ends, by what its parts answer.
-use Rattle.std.proofs.Common.{◌≡◌, refl, ◌∙◌, inl, inr, ℕ, List, Option, Some, None, Result, Ok, Err}
+use Rattle.std.proofs.Common.{◌≡◌, refl, ◌∙◌, inl, inr, ℕ, Bool, true, false, List, Option, Some, None, Result, Ok, Err}
 use Rattle.std.specs.Result.{OnErr, OnOk}
 use Rattle.std.specs.Io.KnownBytes.{Appends, Keeps}
 use Rattle.clap.specs.Words.{IsAmong, Text}
@@ -13,7 +13,7 @@ use Rattle.wl_recording.specs.declared.error.Summary.{Summary}
 use Rattle.wl_program.specs.Command.{Asks, IsRefused, refusals}
 use Rattle.wl_program.specs.Folder.{FolderView, folder_files}
 use Rattle.wl_program.specs.Run.{Ends, Fails, FailsServing, IsReported, IsToldBy, config_of, folder_of}
-use Rattle.wl_program.specs.Status.{fault_by, status_of}
+use Rattle.wl_program.specs.Status.{fault_by, fault_with, status_of}
 use Rattle.wl_program.specs.declared.command.Asked.TheVariants as asked
 use Rattle.wl_program.specs.declared.command.CommandError.TheVariants as refused
 use Rattle.wl_program.specs.declared.command.Replay.{Replay}
@@ -75,6 +75,18 @@ stops-kept replay (stopped.Side line) from side read report mid reported images 
     let s = stops.2 in
     rw (← is) (images, imaged, side, stops.0, stops.1, (s.0, s.1, reported-kept _ _ _ _ read s.0 report mid reported images imaged s.2 keeps, s.3, s.4))
 stops-kept replay stopped.Memory from side read report mid reported images imaged is stops keeps = tt
+
+-- or fails for want of memory, of which nothing is said
+pub stops-with : (lacks : Bool) (replay : Replay) (error : ReplayError) (from side : FolderView) (read report mid reported images imaged : Option (List ℕ)) → from ≡ folder_of replay
+    → (first : Stage) × IsFirst (config_of replay) first × StopsAs folder_files error first from side read report mid images imaged → Keeps mid reported
+    → Fails (fault_with lacks error) replay read report reported
+stops-with true replay (stopped.Side line) from side read report mid reported images imaged is stops keeps = tt
+stops-with true replay stopped.Read from side read report mid reported images imaged is stops keeps = tt
+stops-with true replay stopped.Write from side read report mid reported images imaged is stops keeps = tt
+stops-with true replay (stopped.BadLine line) from side read report mid reported images imaged is stops keeps =
+    stops-kept replay (stopped.BadLine line) from side read report mid reported images imaged is stops keeps
+stops-with true replay stopped.Memory from side read report mid reported images imaged is stops keeps = tt
+stops-with false replay error from side read report mid reported images imaged is stops keeps = stops-kept replay error from side read report mid reported images imaged is stops keeps
 
 -- a replay that fails ends the program by its fault's status
 pub fails-ends : (words : List Text) (replay : Replay) (fault : Fault) (read report reported : Option (List ℕ)) → Asks words (asked.Replay replay)

@@ -6,5 +6,6 @@ mod OptionsRows
 mod PaceRows
 mod Paced
 mod PointerLines
+mod Stepped
 mod Served
 mod Sides

@@ -1,5 +1,5 @@
 -- What is served, by what its parts answer.
-use Rattle.std.proofs.Common.{◌≡◌, ◌⊎◌, ◌+◌, ◌∙◌, ap, inl, inr, refl, subst, ℕ, false, List, [], Option, Result, Ok, Err}
+use Rattle.std.proofs.Common.{◌≡◌, ◌⊎◌, ◌+◌, ◌∙◌, ap, inl, inr, refl, subst, sym, ℕ, Bool, false, true, List, [], None, Option, Result, Ok, Err}
 use Rattle.std.specs.Prelude.{◌<◌, ⊤, is_some}
 use Rattle.std.specs.Result.{IfErr, OnOk}
 use Rattle.spec_desktop.specs.Desktop.{empty}
@@ -16,7 +16,6 @@ use Rattle.wl_recording.specs.declared.pointer.PointerLine.{PointerLine}
 use Rattle.mio.specs.declared.net.uds.stream.UnixStream.{UnixStream}
 use Rattle.wl_program.specs.Folder.{FolderView, folder_files, new_folder}
 use Rattle.wl_server.specs.Acting.{InTurn, IsServed, Stretch, Takes, Then}
-use Rattle.wl_server.specs.Phases.{IsTurn, StartsTurn}
 use Rattle.wl_server.specs.Telling.{IsToldOf, Tells, gathered, pictured, reported}
 use Rattle.wl_server.proofs.Taking.{InTurn-more, InTurn-zero, Takes-both, Takes-weaker, went-none}
 use Rattle.wl_server.proofs.Telling.{Tells-weaker}
@@ -30,7 +29,10 @@ use Rattle.wl_program.specs.Run.{FailsServing}
 use Rattle.wl_server.proofs.Frames.{served-as}
 use Rattle.wl_program.specs.declared.rate.Rate as paced
 use Rattle.wl_program.specs.Pace.{count_of, hertz_of, time_of}
-use Rattle.wl_program.specs.Serving.{AreTurns, BeginsTurns, IsOfPointer, ServedTurns, begun_of, moment_of, output_of, socket_ways, stage_of}
+use Rattle.wl_server.specs.Viewed.{Stage as Stand}
+use Rattle.wl_server.specs.Watching.{Watching}
+use Rattle.wl_program.specs.Steps.{IsStep, IsViewedStep, StartsStep}
+use Rattle.wl_program.specs.Serving.{AreTurns, AreViewedTurns, BeginsTurns, IsOfPointer, IsServedSo, ServedAs, ServedTurns, ServedViewed, begun_of, begun_viewed, moment_of, output_of, socket_ways, stage_of}
 
 -- what a turn told, once it is flushed
 pub turn-told : (P : Stretch) (old new : SessionView) (report told flushed images imaged shown : Option (List ℕ)) → IsServed P (IsToldOf report told images imaged) old new
@@ -50,7 +52,7 @@ turn-begun P old new served = λ d agrees. let s = served d agrees in (s.0, s.1,
 -- ---- turns at a rate, one after another
 
 abbrev pub TurnAt : {H C S : Type 0} → Ways H C → Files S → Option paced.Rate → ℕ → Serving H C S → Serving H C S → Stretch
-TurnAt w files rate n = IsTurn w files (time_of (hertz_of rate) n)
+TurnAt w files rate n = IsStep w files rate (time_of (hertz_of rate) n)
 
 pub turns-none : {H C S : Type 0} (w : Ways H C) (files : Files S) (rate : Option paced.Rate) (from : Serving H C S) (v : SessionView) (report images : Option (List ℕ))
     → Tells (InTurn (TurnAt w files rate) 0 from from) v v report report images images
@@ -59,10 +61,10 @@ turns-none w files rate from v report images = λ d agrees.
 
 pub turns-more : {H C S : Type 0} (w : Ways H C) (files : Files S) (rate : Option paced.Rate) (n time : ℕ) (from between to : Serving H C S) (old mid new : SessionView)
     (x y z i j k : Option (List ℕ)) → time ≡ time_of (hertz_of rate) (n + 1)
-    → Tells (InTurn (TurnAt w files rate) n from between) old mid x y i j → Tells (IsTurn w files time between to) mid new y z j k
+    → Tells (InTurn (TurnAt w files rate) n from between) old mid x y i j → Tells (IsStep w files rate time between to) mid new y z j k
     → Tells (InTurn (TurnAt w files rate) (n + 1) from to) old new x z i k
 turns-more w files rate n time from between to old mid new x y z i j k is first next =
-    let own : Tells (TurnAt w files rate (n + 1) between to) mid new y z j k = subst (λ (t : ℕ). Tells (IsTurn w files t between to) mid new y z j k) is next in
+    let own : Tells (TurnAt w files rate (n + 1) between to) mid new y z j k = subst (λ (t : ℕ). Tells (IsStep w files rate t between to) mid new y z j k) is next in
     Tells-weaker (Then (InTurn (TurnAt w files rate) n) (TurnAt w files rate (n + 1)) from to) (InTurn (TurnAt w files rate) (n + 1) from to) old new x z i k
     (Tells-both (InTurn (TurnAt w files rate) n) (TurnAt w files rate (n + 1)) from between to old mid new x y z i j k first own)
     (λ d e a es ad ae runs then. InTurn-more (TurnAt w files rate) n from to (moment d old) a es (moment e new) then)
@@ -76,13 +78,13 @@ turns-all w files rate turns n from to old new x y i j all tells =
 -- where the next one is only begun, it and those before it are
 pub turns-begun : {H C S : Type 0} (w : Ways H C) (files : Files S) (rate : Option paced.Rate) (turns : Option ℕ) (n time : ℕ) (from between to : Serving H C S) (old mid new : SessionView)
     (x y i j : Option (List ℕ)) → n < count_of turns → time ≡ time_of (hertz_of rate) (n + 1)
-    → Tells (InTurn (TurnAt w files rate) n from between) old mid x y i j → Takes (StartsTurn w files time between to) mid new
+    → Tells (InTurn (TurnAt w files rate) n from between) old mid x y i j → Takes (StartsStep w files rate time between to) mid new
     → Takes (BeginsTurns w files rate turns from to) old new
 turns-begun w files rate turns n time from between to old mid new x y i j fewer is first next =
-    let own : Takes (StartsTurn w files (time_of (hertz_of rate) (n + 1)) between to) mid new = subst (λ (t : ℕ). Takes (StartsTurn w files t between to) mid new) is next in
+    let own : Takes (StartsStep w files rate (time_of (hertz_of rate) (n + 1)) between to) mid new = subst (λ (t : ℕ). Takes (StartsStep w files rate t between to) mid new) is next in
     let took : Takes (InTurn (TurnAt w files rate) n from between) old mid = λ d agrees. let s = first d agrees in (s.0, s.1, s.2) in
-    Takes-weaker (Then (InTurn (TurnAt w files rate) n) (StartsTurn w files (time_of (hertz_of rate) (n + 1))) from to) (BeginsTurns w files rate turns from to) old new
-    (Takes-both (InTurn (TurnAt w files rate) n) (StartsTurn w files (time_of (hertz_of rate) (n + 1))) from between to old mid new took own)
+    Takes-weaker (Then (InTurn (TurnAt w files rate) n) (StartsStep w files rate (time_of (hertz_of rate) (n + 1))) from to) (BeginsTurns w files rate turns from to) old new
+    (Takes-both (InTurn (TurnAt w files rate) n) (StartsStep w files rate (time_of (hertz_of rate) (n + 1))) from between to old mid new took own)
     (λ d e a es ad ae runs then. (n, fewer, then))
 
 -- turns of a new session are turns of a desktop without clients
@@ -159,3 +161,92 @@ socket-fails serve fault report (inr is) = rw is refl
 pub images-fail : (serve : Serve) (fault : Fault) (report : Option (List ℕ)) → (fault ≡ Write) ⊎ (fault ≡ Memory) → FailsServing fault serve report report
 images-fail serve fault report (inl is) = rw is tt
 images-fail serve fault report (inr is) = rw is refl
+
+-- ---- with a viewer
+
+abbrev pub ViewedAt : {H C S V D : Type 0} → Ways H C → Ways V D → Files S → Option paced.Rate → ℕ → ℕ → ℕ → Stand H C S V D → Stand H C S V D → Stretch
+ViewedAt w v files rate width height n = IsViewedStep w v files rate (time_of (hertz_of rate) n) width height
+
+pub viewed-none : {H C S V D : Type 0} (w : Ways H C) (v : Ways V D) (files : Files S) (rate : Option paced.Rate) (width height : ℕ) (from : Stand H C S V D) (s : SessionView) (report images : Option (List ℕ))
+    → Tells (InTurn (ViewedAt w v files rate width height) 0 from from) s s report report images images
+viewed-none w v files rate width height from s report images = λ d agrees.
+    ([], went-none s s d refl agrees, InTurn-zero (ViewedAt w v files rate width height) from (moment d s), (Appends-nil report, Appends-nil images))
+
+pub viewed-more : {H C S V D : Type 0} (w : Ways H C) (v : Ways V D) (files : Files S) (rate : Option paced.Rate) (width height across down n time : ℕ) (from between to : Stand H C S V D) (old mid new : SessionView)
+    (x y z i j k : Option (List ℕ)) → time ≡ time_of (hertz_of rate) (n + 1) → across ≡ width → down ≡ height
+    → Tells (InTurn (ViewedAt w v files rate width height) n from between) old mid x y i j → Tells (IsViewedStep w v files rate time across down between to) mid new y z j k
+    → Tells (InTurn (ViewedAt w v files rate width height) (n + 1) from to) old new x z i k
+viewed-more w v files rate width height across down n time from between to old mid new x y z i j k is wide high first next =
+    let at_time : Tells (IsViewedStep w v files rate (time_of (hertz_of rate) (n + 1)) across down between to) mid new y z j k =
+    subst (λ (t : ℕ). Tells (IsViewedStep w v files rate t across down between to) mid new y z j k) is next in
+    let as_wide : Tells (IsViewedStep w v files rate (time_of (hertz_of rate) (n + 1)) width down between to) mid new y z j k =
+    subst (λ (t : ℕ). Tells (IsViewedStep w v files rate (time_of (hertz_of rate) (n + 1)) t down between to) mid new y z j k) wide at_time in
+    let own : Tells (ViewedAt w v files rate width height (n + 1) between to) mid new y z j k =
+    subst (λ (t : ℕ). Tells (IsViewedStep w v files rate (time_of (hertz_of rate) (n + 1)) width t between to) mid new y z j k) high as_wide in
+    Tells-weaker (Then (InTurn (ViewedAt w v files rate width height) n) (ViewedAt w v files rate width height (n + 1)) from to) (InTurn (ViewedAt w v files rate width height) (n + 1) from to) old new x z i k
+    (Tells-both (InTurn (ViewedAt w v files rate width height) n) (ViewedAt w v files rate width height (n + 1)) from between to old mid new x y z i j k first own)
+    (λ d e a es ad ae runs then. InTurn-more (ViewedAt w v files rate width height) n from to (moment d old) a es (moment e new) then)
+
+pub viewed-all : {H C S V D : Type 0} (w : Ways H C) (v : Ways V D) (files : Files S) (rate : Option paced.Rate) (turns : Option ℕ) (width height n : ℕ) (from to : Stand H C S V D) (old new : SessionView)
+    (x y i j : Option (List ℕ)) → n ≡ count_of turns
+    → Tells (InTurn (ViewedAt w v files rate width height) n from to) old new x y i j → Tells (AreViewedTurns w v files rate turns width height from to) old new x y i j
+viewed-all w v files rate turns width height n from to old new x y i j all tells =
+    subst (λ (count : ℕ). Tells (InTurn (ViewedAt w v files rate width height) count from to) old new x y i j) all tells
+
+viewed-taken : (serve : Serve) (lines : List PointerLine) (to : Stand ℕ UnixStream FolderView ℕ UnixStream) (first old new : SessionView) (report told images imaged : Option (List ℕ)) → old ≡ first
+    → Agrees first.desk (empty (record { width = serve.size.width; height = serve.size.height })) → IsRightBut nobody (moment_of serve.size first)
+    → IsFirst (output_of serve.size) (stage_of serve.size first)
+    → (is_some serve.pointer ≡ false → lines ≡ [])
+    → Tells (AreViewedTurns socket_ways socket_ways folder_files serve.rate serve.turns serve.size.width serve.size.height (begun_viewed serve lines) to) old new report told images imaged
+    → ServedViewed serve report told
+viewed-taken serve lines to first old new report told images imaged same agrees right begins unpointed takes =
+    let P = AreViewedTurns socket_ways socket_ways folder_files serve.rate serve.turns serve.size.width serve.size.height (begun_viewed serve lines) to in
+    let from_first : Tells P first new report told images imaged = subst (λ (v : SessionView). Tells P v new report told images imaged) same takes in
+    let s = served-as P (IsToldOf report told images imaged) first new from_first
+    (empty (record { width = serve.size.width; height = serve.size.height })) agrees in
+    record {
+      first = stage_of serve.size first;
+      acts = s.0;
+      events = s.1.events;
+      last = moment s.1.desktop new;
+      lines = lines;
+      to = to;
+      images = images;
+      imaged = imaged;
+      begins = begins;
+      unpointed = unpointed;
+      turns = s.2;
+      runs = s.1.runs;
+      shows = s.4 nobody right;
+      tells = s.3;
+    }
+
+abbrev pub stand : Serving ℕ UnixStream FolderView → ℕ → Option (Watching UnixStream) → Stand ℕ UnixStream FolderView ℕ UnixStream
+stand from hub place = (from, (hub, place))
+
+-- the second socket, to which no viewer has connected
+pub viewed-as : (serve : Serve) (from : Serving ℕ UnixStream FolderView) (lines : List PointerLine) (hub : ℕ) (place : Option (Watching UnixStream)) → from ≡ begun_of serve lines → hub ≡ 0 → place ≡ None
+    → stand from hub place ≡ begun_viewed serve lines
+viewed-as serve from lines hub place same none nobody_there =
+    ap (λ (f : Serving ℕ UnixStream FolderView). stand f hub place) same
+    ∙ (ap (λ (h : ℕ). stand (begun_of serve lines) h place) none ∙ ap (λ (p : Option (Watching UnixStream)). stand (begun_of serve lines) 0 p) nobody_there)
+
+pub unviewed : {T : Type 0} (r : Result T Fault) (serve : Serve) (report told : Option (List ℕ)) → is_some serve.viewer ≡ false → OnOk r (ServedTurns serve report told)
+    → OnOk r (IsServedSo serve report told)
+unviewed (Ok x) serve report told none holds = subst (λ (b : Bool). ServedAs b serve report told) (sym none) holds
+unviewed (Err e) serve report told none holds = tt
+
+pub viewed-ok : {T : Type 0} (r : Result T Fault) (serve : Serve) (lines : List PointerLine) (rate : Option paced.Rate) (turns : Option ℕ) (width height : ℕ) (from to : Stand ℕ UnixStream FolderView ℕ UnixStream)
+    (first old new : SessionView) (report told images imaged : Option (List ℕ)) → is_some serve.viewer ≡ true → old ≡ first
+    → Agrees first.desk (empty (record { width = serve.size.width; height = serve.size.height })) → IsRightBut nobody (moment_of serve.size first)
+    → IsFirst (output_of serve.size) (stage_of serve.size first) → (is_some serve.pointer ≡ false → lines ≡ [])
+    → rate ≡ serve.rate → turns ≡ serve.turns → width ≡ serve.size.width → height ≡ serve.size.height → from ≡ begun_viewed serve lines
+    → OnOk r (Tells (AreViewedTurns socket_ways socket_ways folder_files rate turns width height from to) old new report told images imaged) → OnOk r (IsServedSo serve report told)
+viewed-ok (Ok x) serve lines rate turns width height from to first old new report told images imaged some same agrees right begins unpointed same_rate same_turns wide high same_from takes =
+    let at_rate = subst (λ (u : Option paced.Rate). Tells (AreViewedTurns socket_ways socket_ways folder_files u turns width height from to) old new report told images imaged) same_rate takes in
+    let so_many = subst (λ (n : Option ℕ). Tells (AreViewedTurns socket_ways socket_ways folder_files serve.rate n width height from to) old new report told images imaged) same_turns at_rate in
+    let as_wide = subst (λ (n : ℕ). Tells (AreViewedTurns socket_ways socket_ways folder_files serve.rate serve.turns n height from to) old new report told images imaged) wide so_many in
+    let as_high = subst (λ (n : ℕ). Tells (AreViewedTurns socket_ways socket_ways folder_files serve.rate serve.turns serve.size.width n from to) old new report told images imaged) high as_wide in
+    let over = subst (λ (f : Stand ℕ UnixStream FolderView ℕ UnixStream). Tells (AreViewedTurns socket_ways socket_ways folder_files serve.rate serve.turns serve.size.width serve.size.height f to) old new report told images imaged) same_from as_high in
+    subst (λ (b : Bool). ServedAs b serve report told) (sym some) (viewed-taken serve lines to first old new report told images imaged same agrees right begins unpointed over)
+viewed-ok (Err e) serve lines rate turns width height from to first old new report told images imaged some same agrees right begins unpointed same_rate same_turns wide high same_from takes = tt

@@ -51,6 +51,9 @@ rate_option = option_named (codes "rate")
 abbrev pub pointer_option : Rule
 pointer_option = option_named (codes "pointer")
 
+abbrev pub viewer_option : Rule
+viewer_option = option_named (codes "viewer")
+
 -- `[--size WxH] [--ppm FILE] [--dir DIR]`
 abbrev pub with_output : App → App
 with_output a = with_rule (with_rule (with_rule a size_option) ppm_option) dir_option
@@ -59,12 +62,12 @@ with_output a = with_rule (with_rule (with_rule a size_option) ppm_option) dir_o
 abbrev pub replay_command : App
 replay_command = with_output (new_app (codes "replay"))
 
--- `serve --socket PATH --turns N [--rate HZ] [--size WxH] [--ppm FILE] [--dir DIR] [--pointer FILE]`, of which `--turns N` may be left out
+-- `serve --socket PATH --turns N [--rate HZ] [--size WxH] [--ppm FILE] [--dir DIR] [--pointer FILE] [--viewer PATH]`, of which `--turns N` may be left out
 -- where the rate is given
 abbrev pub serve_command : Bool → App
 serve_command is_paced =
-    with_rule (with_output (with_rule (with_rule (with_rule (new_app (codes "serve")) socket_option) (turns_option is_paced)) rate_option))
-    pointer_option
+    with_rule (with_rule (with_output (with_rule (with_rule (with_rule (new_app (codes "serve")) socket_option) (turns_option is_paced)) rate_option))
+    pointer_option) viewer_option
 
 -- `wlframe`, which has a version, and does nothing but by a subcommand
 abbrev pub bare_command : App
@@ -130,6 +133,7 @@ pub record IsServed (value : Text → Option Text) (serve : Serve) : Type 0 wher
   pub dir : serve.dir.now ≡ unwrap_or (value (codes "dir")) (codes ".")
   pub ppm : option_map (λ path. path.now) serve.ppm ≡ value (codes "ppm")
   pub pointer : option_map (λ path. path.now) serve.pointer ≡ value (codes "pointer")
+  pub viewer : option_map (λ path. path.now) serve.viewer ≡ value (codes "viewer")
 
 -- the subcommand `serve` asks to serve, and the other to replay
 abbrev pub IsAskedBy : Text → (Text → Option Text) → Asked → Type 0

@@ -7,6 +7,7 @@ pub mod Run
 pub mod Serving
 pub mod Size
 pub mod Status
+pub mod Steps
 pub use Rattle.wl_paint.specs.Frame
 pub use Rattle.wl_recording.specs.Line
 pub use Rattle.wl_recording.specs.Lines

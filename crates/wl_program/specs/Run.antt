@@ -20,7 +20,7 @@ use Rattle.wl_program.specs.declared.fault.Fault.{Fault}
 use Rattle.wl_program.specs.declared.fault.Fault.TheVariants.{Read, Write, Side, Bind, Rate, Size, BadLine, Memory}
 use Rattle.wl_program.specs.declared.fault.Status.{Status}
 use Rattle.wl_program.specs.declared.fault.Status.TheVariants as status
-use Rattle.wl_program.specs.Serving.{ServedTurns, output_of}
+use Rattle.wl_program.specs.Serving.{IsServedSo, output_of}
 
 -- the output of a replay
 abbrev pub config_of : Replay → Config
@@ -93,7 +93,7 @@ abbrev pub Ends : List Text → Status → Option (List ℕ) → Option (List �
 Ends words status.Done read report reported =
     ((replay : Replay) × Asks words (asked.Replay replay) × IsReported replay read report reported)
     ⊎ ((((kind : ErrorKind) × IsAmong kind (refusals words) × IsShown kind) × (reported ≡ report))
-    ⊎ ((serve : Serve) × Asks words (asked.Serve serve) × ServedTurns serve report reported))
+    ⊎ ((serve : Serve) × Asks words (asked.Serve serve) × IsServedSo serve report reported))
 Ends words status.Usage read report reported =
     (((kind : ErrorKind) × IsAmong kind (refusals words) × IsMisuse kind) ⊎ ((error : CommandError) × HasFault words error))
     × (reported ≡ report)

@@ -1,5 +1,5 @@
 -- What is served: turns of the plain desktop, one after another.
-use Rattle.std.specs.Prelude.{◌≡◌, ◌<◌, ◌+◌, ⊤, ℕ, Bool, true, false, is_some, List, [], Option}
+use Rattle.std.specs.Prelude.{◌≡◌, ◌<◌, ◌+◌, ⊤, ℕ, Bool, true, false, is_some, List, [], None, Option}
 use Rattle.mio.specs.declared.net.uds.stream.UnixStream.{UnixStream}
 use Rattle.wl_server.specs.Sockets.{MayAccept, MayClose, MayMove}
 use Rattle.wl_recording.specs.Side.{Files}
@@ -12,19 +12,19 @@ use Rattle.wl_program.specs.declared.rate.Rate as paced
 use Rattle.wl_program.specs.declared.size.Size as declared
 use Rattle.spec_desktop.specs.Act.{Act}
 use Rattle.spec_desktop.specs.Desktop.{empty}
-use Rattle.spec_desktop.specs.LeftOut.{nothing_left_out}
 use Rattle.wl_replay.specs.Told.{IsFirst, Stage}
 use Rattle.wl_server.specs.Acting.{InTurn, ShowsScratch, Stretch, Then}
-use Rattle.wl_server.specs.Phases.{IsTurn, StartsTurn}
 use Rattle.wl_server.specs.Course.{Runs, moment}
 use Rattle.wl_server.specs.Events.{Event, Moment}
 use Rattle.wl_server.specs.Liars.{nobody}
 use Rattle.wl_server.specs.Seats.{nobody as unconnected}
 use Rattle.wl_server.specs.View.{SessionView}
 use Rattle.wl_server.specs.Telling.{IsToldOf}
+use Rattle.wl_server.specs.Viewed.{Stage as Stand}
 use Rattle.wl_server.specs.Ways.{Serving, Ways, serving, ways}
 use Rattle.wl_replay.specs.Config.{Config}
 use Rattle.wl_program.specs.Pace.{count_of, hertz_of, time_of}
+use Rattle.wl_program.specs.Steps.{IsStep, IsViewedStep, StartsStep}
 
 -- an output of this size, whose background is black
 abbrev pub output_of : declared.Size → Config
@@ -38,15 +38,17 @@ abbrev pub stage_of : declared.Size → SessionView → Stage
 stage_of size session =
     record { first = moment_of size session; events = []; now = moment_of size session }
 
--- As many turns as are asked are taken, one after another, each at the time that it has at this rate.
+-- As many turns as are asked are taken, one after another, each at the time that it has at this rate; at a rate with short turns before each.
 abbrev pub AreTurns : {H C S : Type 0} → Ways H C → Files S → Option paced.Rate → Option ℕ → Serving H C S → Serving H C S → Stretch
-AreTurns w files rate turns from to start acts events end = InTurn (λ n. IsTurn w files (time_of (hertz_of rate) n)) (count_of turns) from to start acts events end
+AreTurns w files rate turns from to start acts events end =
+    InTurn (λ n. IsStep w files rate (time_of (hertz_of rate) n)) (count_of turns) from to start acts events end
 
--- Fewer are, and the next one begins.
+-- Fewer are, and the next one begins, or a short turn before it.
 abbrev pub BeginsTurns : {H C S : Type 0} → Ways H C → Files S → Option paced.Rate → Option ℕ → Serving H C S → Serving H C S → Stretch
 BeginsTurns w files rate turns from to start acts events end =
     (n : ℕ) × (n < count_of turns)
-    × Then (InTurn (λ k. IsTurn w files (time_of (hertz_of rate) k)) n) (StartsTurn w files (time_of (hertz_of rate) (n + 1))) from to start acts events end
+    × Then (InTurn (λ k. IsStep w files rate (time_of (hertz_of rate) k)) n) (StartsStep w files rate (time_of (hertz_of rate) (n + 1)))
+    from to start acts events end
 
 -- what may come of the calls of a socket's hub
 abbrev pub socket_ways : Ways ℕ UnixStream
@@ -72,9 +74,47 @@ pub record ServedTurns (serve : Serve) (report told : Option (List ℕ)) : Type 
   pub begins : IsFirst (output_of serve.size) first
   pub unpointed : is_some serve.pointer ≡ false → lines ≡ []
   pub turns : AreTurns socket_ways folder_files serve.rate serve.turns (begun_of serve lines) to first.now acts events last
-  pub runs : Runs nothing_left_out first.now acts events last
+  pub runs : Runs first.now acts events last
   pub shows : ShowsScratch nobody events
   pub tells : IsToldOf report told images imaged events
+
+-- ---- with a viewer
+
+-- As many turns as are asked are taken with a viewer of an output of these sides, one after another, each at the time that it has at this rate;
+-- at a rate with short turns before each.
+abbrev pub AreViewedTurns : {H C S V D : Type 0} → Ways H C → Ways V D → Files S → Option paced.Rate → Option ℕ → ℕ → ℕ → Stand H C S V D → Stand H C S V D → Stretch
+AreViewedTurns w v files rate turns width height from to start acts events end =
+    InTurn (λ n. IsViewedStep w v files rate (time_of (hertz_of rate) n) width height) (count_of turns) from to start acts events end
+
+-- and a second socket, to which no viewer has connected
+abbrev pub begun_viewed : Serve → List PointerLine → Stand ℕ UnixStream FolderView ℕ UnixStream
+begun_viewed serve lines = (begun_of serve lines, (0, None))
+
+-- The same was served as without a viewer, over two sockets: in each turn a viewer's lines are taken behind those of the pointer's file, and whoever
+-- copies each whole update holds the frame of the tick at its time.
+pub record ServedViewed (serve : Serve) (report told : Option (List ℕ)) : Type 0 where
+  pub first : Stage
+  pub acts : List Act
+  pub events : List Event
+  pub last : Moment
+  pub lines : List PointerLine
+  pub to : Stand ℕ UnixStream FolderView ℕ UnixStream
+  pub images : Option (List ℕ)
+  pub imaged : Option (List ℕ)
+  pub begins : IsFirst (output_of serve.size) first
+  pub unpointed : is_some serve.pointer ≡ false → lines ≡ []
+  pub turns : AreViewedTurns socket_ways socket_ways folder_files serve.rate serve.turns serve.size.width serve.size.height (begun_viewed serve lines) to first.now acts events last
+  pub runs : Runs first.now acts events last
+  pub shows : ShowsScratch nobody events
+  pub tells : IsToldOf report told images imaged events
+
+-- by whether a viewer's socket is asked for
+abbrev pub ServedAs : Bool → Serve → Option (List ℕ) → Option (List ℕ) → Type 0
+ServedAs false serve report told = ServedTurns serve report told
+ServedAs true serve report told = ServedViewed serve report told
+
+abbrev pub IsServedSo : Serve → Option (List ℕ) → Option (List ℕ) → Type 0
+IsServedSo serve report told = ServedAs (is_some serve.viewer) serve report told
 
 -- how reading the pointer's file fails: a line is bad only where there is such a file
 abbrev pub IsOfPointer : Bool → Fault → Type 0

@@ -1,4 +1,5 @@
 -- The exit status of a fault, and which fault a replay's error is.
+use Rattle.std.specs.Prelude.{Bool, true}
 use Rattle.wl_program.specs.declared.fault.Fault.{Fault}
 use Rattle.wl_program.specs.declared.fault.Fault.TheVariants.{Read, Write, Side, Bind, Rate, Size, BadLine, Memory}
 use Rattle.wl_recording.specs.declared.error.ReplayError.{ReplayError}
@@ -22,3 +23,8 @@ fault_by stopped.Write = Write
 fault_by (stopped.BadLine line) = BadLine line
 fault_by (stopped.Side line) = Side line
 fault_by stopped.Memory = Memory
+
+-- The same, where it is known whether there was no memory to open a side file: that isn't the file's fault.
+abbrev pub fault_with : Bool → ReplayError → Fault
+fault_with true (stopped.Side line) = Memory
+fault_with lacks_memory error = fault_by error

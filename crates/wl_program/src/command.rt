@@ -3,7 +3,7 @@
 ghost use Rattle.std.specs.Prelude.{◌≡◌, ◌≤◌, Bool, ℕ, IfErr, IfOk, IfSome, MatchResult, Some, None, codes, false, map, option_map, string_bytes};
 ghost use Rattle.clap.specs.Words.{app_of, first_value, found_of, new_app, rule_of};
 ghost use Rattle.wl_recording.specs.Line.{number_of};
-ghost use Rattle.wl_program.specs.Command.{AreTurns, Asks, IsAskedBy, IsFaulty, IsGiven, IsRate, IsRefused, IsServed, IsToldAs, bare_command, dir_option, is_paced, is_rate_word, option_named, pointer_option, ppm_option, program, rate_option, replay_command, serve_command, size_option, socket_option, turns_option, with_output};
+ghost use Rattle.wl_program.specs.Command.{AreTurns, Asks, IsAskedBy, IsFaulty, IsGiven, IsRate, IsRefused, IsServed, IsToldAs, bare_command, dir_option, is_paced, is_rate_word, option_named, pointer_option, ppm_option, program, rate_option, replay_command, serve_command, size_option, socket_option, turns_option, viewer_option, with_output};
 
 use crate::fault::Fault;
 use crate::rate::Rate;
@@ -12,6 +12,7 @@ use clap::builder::ValueParser;
 use clap::error::ErrorKind;
 use clap::{Arg, ArgMatches, Command};
 use std::alloc::{AllocError, Global};
+use thiserror::Error;
 use wl_recording::number;
 
 /// The greatest number of turns.
@@ -52,13 +53,18 @@ pub struct Serve<'a> {
     pub ppm: Option<&'a str>,
     /// The file of the pointer's lines.
     pub pointer: Option<&'a str>,
+    /// The path of the socket that a viewer connects to.
+    pub viewer: Option<&'a str>,
 }
 
 /// Why nothing is to be done.
-#[derive(Drop)]
+#[derive(Debug, Drop, Error)]
 pub enum CommandError {
     /// A fault of usage, or help that was asked for.
+    #[error(transparent)]
     Usage(clap::Error),
+    /// A fault of a value, or want of memory.
+    #[error(transparent)]
     Fault(Fault),
 }
 
@@ -173,7 +179,9 @@ fn serve_command<'a>(alloc: Global, is_paced: bool) -> Result<Command<'a>, Alloc
         .arg(socket_option(alloc))?
         .arg(turns_option(alloc, is_paced))?
         .arg(rate_option(alloc))?;
-    with_output(alloc, serve)?.arg(pointer_option(alloc))
+    with_output(alloc, serve)?
+        .arg(pointer_option(alloc))?
+        .arg(viewer_option(alloc))
 }
 
 /// The subcommand with the options of its output: its size, the file of its images, and the folder of its side files.
@@ -274,6 +282,18 @@ fn pointer_option<'a>(alloc: Global) -> Arg<'a>
     )
 }
 
+fn viewer_option<'a>(alloc: Global) -> Arg<'a>
+    ensures rule { rule_of result ≡ viewer_option }
+    ensures own { result.global ≡ false }
+{
+    named_option(
+        alloc,
+        "viewer",
+        "PATH",
+        "The socket that a viewer connects to, which is made there",
+    )
+}
+
 /// What these matches of the subcommand of this name ask.
 fn asked_of<'a>(name: &str, matches: &ArgMatches<'a>) -> Result<Asked<'a>, CommandError>
     ensures asked { IfOk result (IsAskedBy name.now (first_value (found_of matches.now))) }
@@ -316,6 +336,7 @@ fn serve_of<'a>(matches: &ArgMatches<'a>) -> Result<Serve<'a>, CommandError>
         dir,
         ppm,
         pointer: matches.get_str("pointer"),
+        viewer: matches.get_str("viewer"),
     })
 }
 

@@ -11,6 +11,7 @@ mod rate;
 mod run;
 mod serving;
 mod size;
+mod steps;
 mod streams;
 
 pub use command::{Asked, CommandError, Replay, Serve, parse};
@@ -19,5 +20,5 @@ pub use folder::Folder;
 pub use pace::{Pace, Schedule};
 pub use rate::Rate;
 pub use run::run_program;
-pub use serving::serve_on;
+pub use serving::{serve_on, serve_viewed};
 pub use size::Size;

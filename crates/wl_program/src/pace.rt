@@ -53,12 +53,17 @@ pub struct Schedule<'a, C: Clock> {
     pub pace: Pace,
 }
 
+/// How many short turns in a row find nothing to do before none is taken until something is.
+const QUIET: u32 = 100;
+
 /// Tells when the next turn is due.
 #[derive(Clone, Copy)]
 pub(crate) struct Timer {
     period: Option<Duration>,
     /// When the next turn is due. None where it is due at once.
     due: Option<Instant>,
+    /// How many short turns in a row found nothing to do.
+    quiet: u32,
 }
 
 impl Timer {
@@ -67,14 +72,48 @@ impl Timer {
         Timer {
             period: period_of(rate),
             due: None,
+            quiet: 0,
         }
     }
 
-    /// Sleeps until the next turn is due, and begins it. The turn after it is due a period after this one was; or a period after this one
-    /// begins, where it is later than that, so that turns that were missed aren't made up for.
-    pub(crate) fn wait<C: Clock>(&mut self, clock: &C) {
-        if let Some(period) = self.period {
-            self.due = sleep_until(clock, self.due, period);
+    /// Whether the next turn is due, which then begins; else a short turn is to be taken. Before that it sleeps: a millisecond, but not where
+    /// the last one found something to do; and until the next turn is due where a hundred in a row found nothing.
+    ///
+    /// The turn after it is due a period after this one was; or a period after this one begins, where it is later than that, so that turns
+    /// that were missed aren't made up for. Without a rate each is due at once.
+    pub(crate) fn is_due<C: Clock>(&mut self, clock: &C, is_busy: bool) -> bool {
+        let Some(period) = self.period else {
+            return true;
+        };
+        self.quiet = if is_busy {
+            0
+        } else {
+            self.quiet.saturating_add(1)
+        };
+        match self.left(clock) {
+            Some(left) if self.quiet < QUIET => {
+                if !is_busy {
+                    thread::sleep(clock, left.min(Duration::from_millis(1)));
+                }
+                false
+            }
+            _ => {
+                self.due = sleep_until(clock, self.due, period);
+                true
+            }
+        }
+    }
+
+    /// How long it is until the next turn is due. None where it is, and where the clock tells no time.
+    fn left<C: Clock>(self, clock: &C) -> Option<Duration> {
+        let due = self.due?;
+        let Ok(now) = Instant::now(clock) else {
+            return None;
+        };
+        if now < due {
+            Some(due.duration_since(now))
+        } else {
+            None
         }
     }
 }

@@ -1,20 +1,21 @@
 //! The program, over its words, a runtime and streams.
 
-ghost use Rattle.std.specs.Prelude.{IfErr, OnOk, map, string_bytes};
+ghost use Rattle.std.specs.Prelude.{◌≡◌, IfErr, OnOk, map, string_bytes};
 ghost use Rattle.clap.specs.Words.{kind_of};
 ghost use Rattle.wl_program.specs.Run.{Ends, Fails, IsReported, IsToldBy};
+ghost use Rattle.wl_program.specs.Status.{fault_with};
 
 use crate::command::{Asked, CommandError, Replay, parse};
 use crate::fault::{Fault, Status};
 use crate::folder::Folder;
 use crate::serving::serve;
 use crate::streams::{create, flush};
-use clap::error::ErrorKind;
 use std::alloc::Allocator;
 use std::io::{BufRead, Write};
 use std::net::Net;
 use std::rt::Files;
 use std::time::Clock;
+use wl_recording::ReplayError;
 use wl_replay::{Config, Rgb};
 
 /// The background of every output.
@@ -42,52 +43,22 @@ pub fn run_program<
             Err(fault) => fault.report(terminal),
         },
         Err(CommandError::Fault(fault)) => fault.report(terminal),
-        Err(CommandError::Usage(error)) => show(terminal, error, words),
+        Err(CommandError::Usage(error)) => show(terminal, error),
     }
 }
 
-/// Prints what is to be said of the usage of these words.
-fn show<T: Print + Eprint>(terminal: &T, error: clap::Error, words: &[String]) -> Status
+/// Prints what is to be said of the usage.
+fn show<T: Print + Eprint>(terminal: &T, error: clap::Error) -> Status
     ensures { IsToldBy (kind_of error) result }
 {
-    let kind = error.kind();
     match error.print(terminal) {
         Ok(()) => if error.use_stderr() {
-            hint(terminal, kind, words);
             Status::Usage
         } else {
             Status::Done
         },
         Err(_) => Fault::Write.report(terminal),
     }
-}
-
-/// Where a word is left over in a replay's: from where a recording comes.
-const REPLAY_HINT: &str = "\nA recording comes on standard input: wlframe replay [OPTIONS] < FILE";
-
-/// Says from where a recording comes, where one may have been named by a word.
-fn hint<T: Eprint>(terminal: &T, kind: ErrorKind, words: &[String]) {
-    if kind == ErrorKind::UnknownArgument && names_recording(words) {
-        let _ = eprintln!(terminal; "{REPLAY_HINT}");
-    }
-}
-
-/// Whether these words are of a replay, and a word behind it is no option.
-fn names_recording(words: &[String]) -> bool {
-    match words {
-        [_, command, rest @ ..] => command.as_str() == "replay" && has_operand(rest),
-        _ => false,
-    }
-}
-
-/// Whether one of these words is no option.
-fn has_operand(words: &[String]) -> bool {
-    for word in words {
-        if !word.as_str().starts_with('-') {
-            return true;
-        }
-    }
-    false
 }
 
 /// Plays a recording from the input.
@@ -112,6 +83,16 @@ fn play<F: Files + AllocGlobal, A: Allocator + Copy, I: BufRead, W: Write>(
     let flushed = flush(output, &mut ppm);
     match played {
         Ok(_) => flushed,
-        Err(error) => Err(Fault::from(error)),
+        Err(error) => Err(fault_of(error, side.lacks_memory())),
+    }
+}
+
+/// Why a recording wasn't played to its end. Where there was no memory to open a side file, that is why.
+fn fault_of(error: ReplayError, lacks_memory: bool) -> Fault
+    ensures { result ≡ fault_with lacks_memory error }
+{
+    match error {
+        ReplayError::Side(_) if lacks_memory => Fault::Memory,
+        error => Fault::from(error),
     }
 }

@@ -1,18 +1,17 @@
 //! Clients are served.
 
-ghost use Rattle.std.specs.Prelude.{◌≡◌, ◌⊎◌, IfErr, IfOk, OnErr, OnOk};
+ghost use Rattle.std.specs.Prelude.{◌≡◌, ◌⊎◌, IfErr, IfOk, IfSome, OnErr, OnOk, is_some};
 ghost use Rattle.spec_desktop.specs.Desktop.{empty};
 ghost use Rattle.wl_replay.specs.Told.{IsFirst};
 ghost use Rattle.wl_server.specs.Agreeing.{Agrees};
 ghost use Rattle.wl_server.specs.Liars.{IsRightBut, nobody};
 ghost use Rattle.wl_server.specs.Acting.{Takes};
-ghost use Rattle.wl_server.specs.Phases.{IsTurn, StartsTurn};
 ghost use Rattle.wl_recording.specs.Side.{files_of};
 ghost use Rattle.wl_recording.specs.Images.{images_in};
 ghost use Rattle.wl_server.specs.Telling.{Tells};
 ghost use Rattle.wl_server.specs.Ways.{serving, ways};
 ghost use Rattle.wl_program.specs.Run.{FailsServing};
-ghost use Rattle.wl_program.specs.Serving.{AreTurns, BeginsTurns, ServedTurns, moment_of, output_of, stage_of};
+ghost use Rattle.wl_program.specs.Serving.{AreTurns, AreViewedTurns, BeginsTurns, IsServedSo, moment_of, output_of, stage_of};
 
 use crate::command::Serve;
 use crate::fault::Fault;
@@ -21,7 +20,8 @@ use crate::pace::{Pace, Schedule, Timer};
 use crate::pointing::read_pointer;
 use crate::run::BLACK;
 use crate::size::Size;
-use crate::streams::{create, flush};
+use crate::steps::{take_step, take_viewed_step};
+use crate::streams::create;
 use std::alloc::Allocator;
 use std::io::{self, ErrorKind, Write};
 use std::net::Net;
@@ -29,7 +29,7 @@ use std::rt::Files;
 use std::time::Clock;
 use wl_recording::SideFiles;
 use wl_replay::Config;
-use wl_server::{Connections, Hub, Service, Session, SocketHub, TurnError, turn};
+use wl_server::{Connections, Hub, Service, Session, Shares, SocketHub, Viewing};
 
 /// Serves the clients that connect to a socket, which is made at its path and stays there.
 pub(crate) fn serve<'a, F: Files + Net + Clock + AllocGlobal, A: Allocator + Copy, W: Write>(
@@ -38,12 +38,13 @@ pub(crate) fn serve<'a, F: Files + Net + Clock + AllocGlobal, A: Allocator + Cop
     serve: Serve<'a>,
     output: &mut W,
 ) -> Result<(), Fault>
-    ensures served { OnOk result (ServedTurns serve.entry (W.contents output.old) (W.contents output.new)) }
+    ensures served { OnOk result (IsServedSo serve.entry (W.contents output.old) (W.contents output.new)) }
     ensures failed { IfErr result (λ fault. FailsServing fault serve.entry (W.contents output.old) (W.contents output.new)) }
 {
     let mut ppm = create(files, serve.ppm)?;
     let lines = read_pointer(files, alloc, serve.pointer)?;
     let hub = bind(files, serve.socket)?;
+    let viewer = bind_viewer(files, serve.viewer)?;
     let side = Folder::new(files, serve.dir);
     let session = session_of(alloc, serve.size)?;
     let mut service = Service::new(session, hub, side, lines);
@@ -55,7 +56,32 @@ pub(crate) fn serve<'a, F: Files + Net + Clock + AllocGlobal, A: Allocator + Cop
         },
     };
     let mut connections = Connections::new();
-    serve_on(schedule, &mut service, &mut connections, output, &mut ppm)
+    match viewer {
+        None => serve_on(schedule, &mut service, &mut connections, output, &mut ppm),
+        Some(hub) => {
+            let mut viewing = Viewing::new(alloc, serve.size.width, serve.size.height, hub);
+            serve_viewed(
+                schedule,
+                &mut service,
+                &mut connections,
+                &mut viewing,
+                output,
+                &mut ppm,
+            )
+        }
+    }
+}
+
+/// Makes the socket that a viewer connects to, where there is to be one.
+fn bind_viewer<F: Files + Net>(files: &F, path: Option<&str>) -> Result<Option<SocketHub>, Fault>
+    ensures asked { IfOk result (λ hub. is_some hub ≡ is_some path.entry) }
+    ensures bound { IfOk result (λ hub. IfSome hub (λ h. h ≡ 0)) }
+    ensures failed { IfErr result (λ fault. (fault ≡ Fault.Bind) ⊎ (fault ≡ Fault.Memory)) }
+{
+    match path {
+        Some(path) => Ok(Some(bind(files, path)?)),
+        None => Ok(None),
+    }
 }
 
 /// Makes the socket at a path. An empty path names no file, so nothing is made there.
@@ -99,33 +125,8 @@ fn session_of<A: Allocator + Copy>(alloc: A, size: Size) -> Result<Session<A>, F
     }
 }
 
-/// Takes a turn at this time, and writes what it reports, so that whoever reads along sees it before the next one.
-fn take_turn<A: Allocator + Copy, H: Hub, S: SideFiles, W: Write, P: Write>(
-    service: &mut Service<A, H, S>,
-    connections: &mut Connections<H::Conn>,
-    time: u32,
-    report: &mut W,
-    ppm: &mut Option<P>,
-) -> Result<(), Fault>
-    ensures taken { OnOk result (Tells (IsTurn (ways H.accepts H.reads H.writes H.closes H.fault_count) (files_of S.opens S.gives S.fault_count) time
-        (serving service.old.hub connections.old service.old.side service.old.waiting) (serving service.new.hub connections.new service.new.side service.new.waiting))
-        service.old.session service.new.session (W.contents report.old) (W.contents report.new)
-        (images_in P.contents ppm.old) (images_in P.contents ppm.new)) }
-    ensures begun { Takes (StartsTurn (ways H.accepts H.reads H.writes H.closes H.fault_count) (files_of S.opens S.gives S.fault_count) time
-        (serving service.old.hub connections.old service.old.side service.old.waiting) (serving service.new.hub connections.new service.new.side service.new.waiting))
-        service.old.session service.new.session }
-    ensures failed { IfErr result (λ fault. fault ≡ Fault.Write) }
-{
-    let taken = turn(service, connections, time, report, ppm);
-    let flushed = flush(report, ppm);
-    match taken {
-        Ok(()) => flushed,
-        Err(TurnError::Write) => Err(Fault::Write),
-    }
-}
-
 /// Serves the clients of a hub over their connections: takes the turns 1 to as many as the schedule's pace has, one after another, each at its
-/// time.
+/// time; at a rate with short turns between them, in which clients are served without a frame.
 ///
 /// Turns begin at most as often as the pace says, and between them it sleeps by the schedule's clock; no clause says how long. `Write` is answered where the
 /// report or the images couldn't be written; then no more turns are taken, and the steps of those that were stand.
@@ -146,10 +147,63 @@ pub fn serve_on<C: Clock, A: Allocator + Copy, H: Hub, S: SideFiles, W: Write, P
     ensures failed { IfErr result (λ fault. fault ≡ Fault.Write) }
 {
     let mut timer = Timer::new(schedule.pace.rate);
+    let mut shares = Shares::new(schedule.clock);
     for before in 0..schedule.pace.count() {
-        timer.wait(schedule.clock);
         let time = schedule.pace.time_of(before + 1);
-        take_turn(service, connections, time, report, ppm)?;
+        take_step(
+            schedule,
+            &mut timer,
+            &mut shares,
+            service,
+            connections,
+            time,
+            report,
+            ppm,
+        )?;
+    }
+    Ok(())
+}
+
+/// Serves the clients of a hub as [`serve_on`] does, with a viewer of another hub: takes the turns 1 to as many as the schedule's pace has, one after
+/// another, each at its time. Whoever copies each whole update holds the frame of the tick at its time.
+pub fn serve_viewed<
+    C: Clock,
+    A: Allocator + Copy,
+    H: Hub,
+    S: SideFiles,
+    V: Hub,
+    W: Write,
+    P: Write,
+>(
+    schedule: Schedule<'_, C>,
+    service: &mut Service<A, H, S>,
+    connections: &mut Connections<H::Conn>,
+    viewing: &mut Viewing<A, V, V::Conn>,
+    report: &mut W,
+    ppm: &mut Option<P>,
+) -> Result<(), Fault>
+    ensures taken { OnOk result (Tells (AreViewedTurns (ways H.accepts H.reads H.writes H.closes H.fault_count) (ways V.accepts V.reads V.writes V.closes V.fault_count) (files_of S.opens S.gives S.fault_count) schedule.entry.pace.rate schedule.entry.pace.turns viewing.old.width viewing.old.height
+        (serving service.old.hub connections.old service.old.side service.old.waiting, (viewing.old.hub, viewing.old.watcher))
+        (serving service.new.hub connections.new service.new.side service.new.waiting, (viewing.new.hub, viewing.new.watcher)))
+        service.old.session service.new.session (W.contents report.old) (W.contents report.new)
+        (images_in P.contents ppm.old) (images_in P.contents ppm.new)) }
+    ensures failed { IfErr result (λ fault. fault ≡ Fault.Write) }
+{
+    let mut timer = Timer::new(schedule.pace.rate);
+    let mut shares = Shares::new(schedule.clock);
+    for before in 0..schedule.pace.count() {
+        let time = schedule.pace.time_of(before + 1);
+        take_viewed_step(
+            schedule,
+            &mut timer,
+            &mut shares,
+            service,
+            connections,
+            viewing,
+            time,
+            report,
+            ppm,
+        )?;
     }
     Ok(())
 }

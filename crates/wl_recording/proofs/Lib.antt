@@ -3,3 +3,11 @@ pub mod Spelling
 pub mod LineEnds
 pub mod Digits
 pub mod Names
+pub mod Ranged
+pub mod RangesRows
+pub mod WordsOf
+pub mod ReadBack
+pub mod WrittenLines
+pub mod Recordings
+pub mod Alike
+pub mod FedPieces

@@ -17,7 +17,7 @@ after_none (Some bs) = refl
 pub spelt_first : (front text : List ℕ) → front ≡ [] → after front (bytes_in text) ≡ bytes_in text
 spelt_first front text is = rw is (after_none (bytes_in text))
 
-bytes_in-space : (b : ℕ) (text : List ℕ) → (b == 32) ≡ true → bytes_in (b ∷ text) ≡ bytes_in text
+pub bytes_in-space : (b : ℕ) (text : List ℕ) → (b == 32) ≡ true → bytes_in (b ∷ text) ≡ bytes_in text
 bytes_in-space b [] e = rw e refl
 bytes_in-space b (c ∷ text) e = rw e refl
 
@@ -31,7 +31,7 @@ after-before : (front : List ℕ) (byte : ℕ) (bytes : Option (List ℕ)) → a
 after-before front byte None = refl
 after-before front byte (Some bs) = ap Some (sym (append_assoc front (byte ∷ []) bs))
 
-bytes_in-pair : (high low byte : ℕ) (text : List ℕ) → (high == 32) ≡ false → Some byte ≡ byte_of high low
+pub bytes_in-pair : (high low byte : ℕ) (text : List ℕ) → (high == 32) ≡ false → Some byte ≡ byte_of high low
     → bytes_in (high ∷ low ∷ text) ≡ before (Some byte) (bytes_in text)
 bytes_in-pair high low byte text e is = rw (e, ← is) refl
 

@@ -19,11 +19,17 @@ pub word_ends : (text : List ℕ) (n : ℕ) → n ≤ length text → ((k : ℕ)
 word_ends text n within arent is =
     sym (prefix_len_is (λ b. not (b == 32)) text n 0 within (λ k h. ap not (ne_eqb (get_or text k 0) 32 (arent k h))) (λ h. ap not (eq-eqb (get_or text n 0) 32 (is h))))
 
+-- the line ends at n
+pub line_ends : (text : List ℕ) (n : ℕ) → n ≤ length text → ((k : ℕ) → k < n → get_or text k 0 ≡ 10 → ⊥) → (n < length text → get_or text n 0 ≡ 10)
+    → n ≡ prefix_len (λ b. not (b == 10)) text
+line_ends text n within arent is =
+    sym (prefix_len_is (λ b. not (b == 10)) text n 0 within (λ k h. ap not (ne_eqb (get_or text k 0) 10 (arent k h))) (λ h. ap not (eq-eqb (get_or text n 0) 10 (is h))))
+
 value_of-from : (value : ℕ) (digits : List ℕ) → value ≤ fold (λ v b. 10 * v + (b - 48)) value digits
 value_of-from value [] = omega arith
 value_of-from value (b ∷ digits) = omega (arith, value_of-from (10 * value + (b - 48)) digits)
 
-value_of-rest : (value : ℕ) (front rest : List ℕ)
+pub value_of-rest : (value : ℕ) (front rest : List ℕ)
     → fold (λ v b. 10 * v + (b - 48)) value (front ++ rest) ≡ fold (λ v b. 10 * v + (b - 48)) (fold (λ v b. 10 * v + (b - 48)) value front) rest
 value_of-rest value [] rest = refl
 value_of-rest value (b ∷ front) rest = value_of-rest (10 * value + (b - 48)) front rest

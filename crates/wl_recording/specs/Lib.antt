@@ -1,6 +1,10 @@
 pub mod Images
 pub mod Line
 pub mod Lines
+pub mod Numbers
 pub mod Pointer
+pub mod Ranges
+pub mod Recording
 pub mod Side
 pub mod Text
+pub mod Written

@@ -9,16 +9,16 @@ Rose old new = (old < new) ⊎ (new ≡ 2 ^ 64 - 1)
 abbrev pub CountsFault : {T E : Type 0} → ℕ → ℕ → Result T E → Type 0
 CountsFault old new r = MatchResult r (λ _. new ≡ old) (λ _. Rose old new)
 
--- which answers an open of a name may give and which bytes a read, from one state of the files to the next, and how many
--- faults a state has counted
+-- which answers an open of a name may give, to read from a byte on, and which bytes a read, from one state of the files to
+-- the next, and how many faults a state has counted
 pub record Files (S : Type 0) : Type 1 where
-  pub opens : S → List ℕ → Bool → S → Type 0
+  pub opens : S → List ℕ → ℕ → Bool → S → Type 0
   pub gives : S → List ℕ → S → Type 0
   pub faults : S → ℕ
 
-abbrev pub files_of : {S : Type 0} → (S → List ℕ → Bool → S → Type 0) → (S → List ℕ → S → Type 0) → (S → ℕ) → Files S
+abbrev pub files_of : {S : Type 0} → (S → List ℕ → ℕ → Bool → S → Type 0) → (S → List ℕ → S → Type 0) → (S → ℕ) → Files S
 files_of opens gives faults = record { opens = opens; gives = gives; faults = faults }
 
 -- there is no file of this name, or a call failed
 abbrev pub Lacks : {S : Type 0} → Files S → List ℕ → S → S → Type 0
-Lacks files name from to = files.opens from name false to ⊎ Rose (files.faults from) (files.faults to)
+Lacks files name from to = files.opens from name 0 false to ⊎ Rose (files.faults from) (files.faults to)

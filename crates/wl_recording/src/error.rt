@@ -2,6 +2,7 @@
 
 ghost use Rattle.std.specs.Prelude.{◌≡◌};
 ghost use Rattle.wl_recording.specs.declared.error.ReplayError.TheVariants.{Memory};
+ghost use Rattle.wl_recording.specs.Numbers.{error_number};
 
 use std::alloc::AllocError;
 use thiserror::Error;
@@ -20,16 +21,36 @@ pub struct Summary {
 /// Why a recording wasn't played to its end. Lines are counted from 1.
 #[derive(Clone, Copy, Debug, PartialEq, Eq, Error)]
 pub enum ReplayError {
+    /// The recording couldn't be read.
     #[error("read failed")]
     Read,
+    /// The report or the images couldn't be written.
     #[error("write failed")]
     Write,
+    /// This line is none of a recording.
     #[error("bad line {0}")]
     BadLine(u32),
+    /// The side file that this line asks for isn't there, or failed.
     #[error("side file failed at line {0}")]
     Side(u32),
+    /// There is no memory for it.
     #[error("out of memory")]
     Memory,
+}
+
+impl ReplayError {
+    /// Its number: 1 to 5, as they stand.
+    pub fn number(self) -> u8
+        ensures { result ≡ error_number self }
+    {
+        match self {
+            ReplayError::Read => 1,
+            ReplayError::Write => 2,
+            ReplayError::BadLine(_) => 3,
+            ReplayError::Side(_) => 4,
+            ReplayError::Memory => 5,
+        }
+    }
 }
 
 impl From<AllocError> for ReplayError {

@@ -46,7 +46,8 @@ pub fn parse<'a, A: Allocator>(
     parse_words(word, rest, piece)
 }
 
-pub(crate) fn is_comment(text: &[u8]) -> bool
+/// Whether a line is a comment: it begins with `#`.
+pub fn is_comment(text: &[u8]) -> bool
     ensures { result ≡ is_comment text.now }
 {
     !text.is_empty() && text[0] == b'#'

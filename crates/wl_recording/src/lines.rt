@@ -6,15 +6,22 @@ ghost use Rattle.std.specs.Io.KnownBytes.{Consumes, IsAtEnd};
 
 use std::alloc::{AllocError, Allocator};
 use std::io::{BufRead, ErrorKind};
+use thiserror::Error;
 
 /// The greatest number of bytes of a line, without its line feed.
 pub const LINE_LIMIT: usize = 140_000;
 
 /// Why no line was read.
-#[derive(Clone, Copy, Debug, PartialEq, Eq)]
+#[derive(Clone, Copy, Debug, PartialEq, Eq, Error)]
 pub enum LineError {
+    /// The reader failed.
+    #[error("read failed")]
     Read,
+    /// The line has more than 140,000 bytes.
+    #[error("the line is too long")]
     TooLong,
+    /// There is no memory for the line.
+    #[error("out of memory")]
     Memory,
 }
 

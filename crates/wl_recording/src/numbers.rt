@@ -24,7 +24,7 @@ pub fn number(word: &[u8]) -> Option<u32>
 }
 
 /// The coordinate that a word spells: a number, with a `-` before it where it is negative.
-pub(crate) fn signed(word: &[u8]) -> Option<i32>
+pub fn signed(word: &[u8]) -> Option<i32>
     ensures { result ≡ signed_of word.now }
 {
     if has_minus(word) {
@@ -53,7 +53,7 @@ fn negative(number: u32) -> Option<i32>
 }
 
 /// Whether a word that is 0 or 1 is 1.
-pub(crate) fn pressed_of(word: &[u8]) -> Option<bool>
+pub fn pressed_of(word: &[u8]) -> Option<bool>
     ensures { result ≡ pressed_of word.now }
 {
     match number(word)? {

@@ -82,7 +82,7 @@ fn write_cause<W: Write>(cause: Cause, writer: &mut W) -> io::Result<()>
     }
 }
 
-fn write_hex<W: Write>(bytes: &[u8], writer: &mut W) -> io::Result<()>
+pub(crate) fn write_hex<W: Write>(bytes: &[u8], writer: &mut W) -> io::Result<()>
     ensures { OnOk result (Appends (W.contents writer.old) (W.contents writer.new) (hex_of bytes.now)) }
 {
     let mut done = 0;

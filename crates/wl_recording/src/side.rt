@@ -18,12 +18,12 @@ pub trait SideFiles {
     /// Which bytes a read may give, from one state to the next.
     ghost gives: { Self → List ℕ → Self → Type 0 };
 
-    /// Which answers an `open` of a name may give, from one state to the next.
-    ghost opens: { Self → List ℕ → Bool → Self → Type 0 };
+    /// Which answers an `open` of a name, to read from a byte on, may give, from one state to the next.
+    ghost opens: { Self → List ℕ → ℕ → Bool → Self → Type 0 };
 
-    /// Opens a file, which is then read from its start. False where there is none.
-    fn open(&mut self, name: &str) -> Result<bool, SideFault>
-        ensures answers { IfOk result (λ there. opens self.old name.now there self.new) }
+    /// Opens a file, which is then read from this byte on, counted from 0. False where there is none.
+    fn open(&mut self, name: &str, from: u32) -> Result<bool, SideFault>
+        ensures answers { IfOk result (λ there. opens self.old name.now from there self.new) }
         ensures faults { CountsFault (fault_count self.old) (fault_count self.new) result };
 
     /// Reads the next bytes of the open file, and answers how many; none only at its end.

@@ -3,9 +3,10 @@
 ghost use Rattle.std.specs.Prelude.{◌≡◌, ◌==◌, ◌≤◌, length, not};
 ghost use Rattle.std.specs.List.{prefix_len};
 ghost use Rattle.wl_recording.specs.Line.{after_word, first_word, is_blank};
+ghost use Rattle.wl_recording.specs.Ranges.{before_space, behind_space};
 
 /// The first word of a text, empty where it has none, and what follows it.
-pub(crate) fn next_word(text: &[u8]) -> (&[u8], &[u8])
+pub fn next_word(text: &[u8]) -> (&[u8], &[u8])
     ensures word { result.0.now ≡ first_word text.now }
     ensures rest { result.1.now ≡ after_word text.now }
 {
@@ -13,8 +14,21 @@ pub(crate) fn next_word(text: &[u8]) -> (&[u8], &[u8])
     text.split_at(word_len(text))
 }
 
+/// What stands before the first space of a text, and behind it. Without a space all of it stands before.
+pub(crate) fn cut_word(text: &[u8]) -> (&[u8], &[u8])
+    ensures word { result.0.now ≡ before_space text.now }
+    ensures rest { result.1.now ≡ behind_space text.now }
+{
+    let (word, rest) = text.split_at(word_len(text));
+    if rest.is_empty() {
+        (word, rest)
+    } else {
+        (word, &rest[1..])
+    }
+}
+
 /// Whether a text has no word.
-pub(crate) fn is_blank(text: &[u8]) -> bool
+pub fn is_blank(text: &[u8]) -> bool
     ensures { result ≡ is_blank text.now }
 {
     spaces(text) == text.len()

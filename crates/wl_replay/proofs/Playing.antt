@@ -6,12 +6,13 @@ use Rattle.std.proofs.KnownBytes.{Appends-nil, Appends-trans}
 use Rattle.std.proofs.lemmas.List.{length_push}
 use Rattle.spec_desktop.specs.Desktop.{Desktop}
 use Rattle.wl_session.specs.View.{SessionView}
-use Rattle.wl_session.specs.declared.sessions.Config.{Config}
+use Rattle.wl_session.specs.Config.{Config}
 use Rattle.wl_recording.specs.declared.error.Summary.{Summary}
 use Rattle.wl_recording.specs.declared.error.ReplayError.{ReplayError}
 use Rattle.wl_recording.specs.declared.error.ReplayError.TheVariants as error
 use Rattle.wl_session.specs.Agreeing.{Agrees}
 use Rattle.wl_replay.specs.Report.{FailsAt, IsLackingLine, IsPlayed, Reported, StopsAs, TakesOne, more, none}
+use Rattle.wl_recording.specs.Lines.{TakesLine}
 use Rattle.wl_recording.specs.Side.{Files}
 use Rattle.wl_replay.specs.Told.{Counts, IsFirst, Stage, Stands, and_then, words}
 
@@ -96,11 +97,12 @@ StopsAs-line files (error.Side n) first from between to session read left report
     let e = lacks fails.1 in rw (e.0, e.1) (left, between, p.run, fails.0 ∙ ap (λ (k : ℕ). k + 1) (sym p.lines_told), e.2 p.run.last.now.desktop p.stands.desk)
 StopsAs-line files error.Memory first from between to session read left report wrote reported images showed imaged lines frames clients IsQuiet IsLacking p same lacks fails = tt
 
--- the line past the greatest number of lines
-pub StopsAs-past : {S : Type 0} (files : Files S) (first : Stage) (from to : S) (session : SessionView) (read left report reported images imaged : Option (List ℕ)) (frames clients : ℕ)
-    → PlayedTo files first from to session read left report reported images imaged 1000000 frames clients → StopsAs files (error.BadLine 1000001) first from to read report reported images imaged
-StopsAs-past files first from to session read left report reported images imaged frames clients p =
-    (left, p.run, ap (λ (k : ℕ). k + 1) (sym p.lines_told), inl p.lines_told)
+-- a line past the greatest number of lines
+pub StopsAs-past : {S : Type 0} (files : Files S) (first : Stage) (from to : S) (session : SessionView) (read left rest report reported images imaged : Option (List ℕ)) (line : List ℕ)
+    (frames clients : ℕ) → PlayedTo files first from to session read left report reported images imaged 1000000 frames clients → TakesLine left rest line
+    → StopsAs files (error.BadLine 1000001) first from to read report reported images imaged
+StopsAs-past files first from to session read left rest report reported images imaged line frames clients p taken =
+    (left, p.run, ap (λ (k : ℕ). k + 1) (sym p.lines_told), inl (p.lines_told, line, rest, taken))
 
 -- what an answer says of every stage that the session stands for, it says of the first
 pub IfErr-at : (r : Result Summary ReplayError) (P : ReplayError → Stage → Type 0) (config : Config) (session : SessionView) (first : Stage) → IsFirst config first → Stands session first

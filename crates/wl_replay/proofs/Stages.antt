@@ -2,7 +2,6 @@
 use Rattle.std.proofs.Common.{◌≡◌, ◌++◌, ◌*◌, ℕ, false, List, [], ap, refl, subst, ◌∙◌}
 use Rattle.spec_desktop.specs.Act.{Act, Tick}
 use Rattle.spec_desktop.specs.Desktop.{empty}
-use Rattle.spec_desktop.specs.LeftOut.{nothing_left_out}
 use Rattle.spec_desktop.specs.declared.answers.Done.{Done}
 use Rattle.spec_desktop.specs.declared.answers.Done.TheVariants as gave
 use Rattle.wl_session.specs.Agreeing.{Agrees}
@@ -12,7 +11,7 @@ use Rattle.wl_session.specs.Events.{AreEvents, Moment}
 use Rattle.wl_session.specs.Frame.{Image, filled}
 use Rattle.wl_session.specs.Liars.{IsRightBut, nobody}
 use Rattle.wl_session.specs.View.{SessionView}
-use Rattle.wl_session.specs.declared.sessions.Config.{Config}
+use Rattle.wl_session.specs.Config.{Config}
 use Rattle.wl_session.proofs.Courses.{apart-then, events-then}
 use Rattle.wl_session.proofs.Runs.{tick-scratch}
 use Rattle.wl_replay.specs.Told.{IsFirst, IsSeenAt, Stage, Stands, Steps}
@@ -28,8 +27,8 @@ abbrev pub after : (act : Act) → (done : Done) → (old new : SessionView) →
 after act done old new stage course = record { first = stage.first; events = stage.events ++ course.events; now = moment course.desktop new }
 
 module _ (act : Act) (done : Done) (old new : SessionView) (stage : Stage) (stands : Stands old stage) (course : Course act done old new stage.now.desktop) where
-  leads-on : AreEvents nothing_left_out stage.now course.events (moment course.desktop new)
-  leads-on = subst (λ (m : Moment). AreEvents nothing_left_out m course.events (moment course.desktop new)) (same-moment old stage stands) course.leads
+  leads-on : AreEvents stage.now course.events (moment course.desktop new)
+  leads-on = subst (λ (m : Moment). AreEvents m course.events (moment course.desktop new)) (same-moment old stage stands) course.leads
 
   pub steps-on : Steps act done stage (after act done old new stage course)
   steps-on = record { happens = course.happens; events = course.events; parts = course.parts; leads = leads-on; later = refl; first = refl }

@@ -8,8 +8,8 @@ pub use Rattle.wl_recording.specs.Line
 pub use Rattle.wl_recording.specs.Lines
 pub use Rattle.wl_recording.specs.Side
 pub use Rattle.wl_recording.specs.Text
+pub use Rattle.wl_session.specs.Config
 pub use Rattle.wl_session.specs.Damage
 pub use Rattle.wl_session.specs.Frame
 pub use Rattle.wl_session.specs.Image
 pub use Rattle.wl_session.specs.Run
-pub use Rattle.wl_session.specs.declared.sessions.Config

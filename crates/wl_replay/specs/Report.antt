@@ -132,6 +132,10 @@ pub record Reported {S : Type 0} (files : Files S) (first : Stage) (from to : S)
   pub written : Appends report reported told.text
   pub shown : Appends images imaged told.images
 
+-- as many lines as there may be were read, and there is one more
+abbrev pub IsPastLast : ℕ → Option (List ℕ) → Type 0
+IsPastLast lines left = (lines ≡ 1000000) × (line : List ℕ) × (rest : Option (List ℕ)) × TakesLine left rest line
+
 -- the next line is too long, or no line of a recording
 abbrev pub IsBadLine : Option (List ℕ) → Type 0
 IsBadLine left = IsTooLong 140000 left ⊎ ((line : List ℕ) × (rest : Option (List ℕ)) × TakesLine left rest line × (asked_by line ≡ None))
@@ -176,7 +180,7 @@ IsPlayed files first from to summary read report reported images imaged =
     (left : Option (List ℕ)) × (r : Reported files first from to read left report reported images imaged) × IsAtEnd left
     × (summary ≡ record { lines = length r.lines; frames = r.told.frames; clients = r.told.clients })
 
--- The recording was played up to a line. A bad one is named by its number from 1; the line past the greatest number of lines is
+-- The recording was played up to a line. A bad one is named by its number from 1; a line past the greatest number of lines is
 -- bad too. So is one whose side file isn't there or failed, of which nothing is told. Nothing is said of what was told where the
 -- report or the images could not be written, or memory was wanted.
 abbrev pub StopsAs : {S : Type 0} → Files S → ReplayError → Stage → S → S → Option (List ℕ) → Option (List ℕ) → Option (List ℕ)
@@ -186,7 +190,7 @@ StopsAs {S} files error.Read first from to read report reported images imaged =
 StopsAs {S} files error.Write first from to read report reported images imaged = ⊤
 StopsAs {S} files (error.BadLine n) first from to read report reported images imaged =
     (left : Option (List ℕ)) × (r : Reported files first from to read left report reported images imaged) × (n ≡ length r.lines + 1)
-    × ((length r.lines ≡ 1000000) ⊎ IsBadLine left)
+    × (IsPastLast (length r.lines) left ⊎ IsBadLine left)
 StopsAs {S} files (error.Side n) first from to read report reported images imaged =
     (left : Option (List ℕ)) × (between : S) × (r : Reported files first from between read left report reported images imaged)
     × (n ≡ length r.lines + 1) × IsLackingLine files left r.last.now.desktop between to

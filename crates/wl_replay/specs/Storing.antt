@@ -69,7 +69,7 @@ abbrev pub TellsFileAs : {S : Type 0} → Files S → Place → List ℕ → Res
 TellsFileAs {S} files place name (Err answer) from to old told new = (told ≡ words (stored_text place answer)) × (new ≡ old) × (to ≡ from)
 TellsFileAs {S} files place name (Ok size) from to old told new =
     (told ≡ words [])
-    × ((opened : S) × files.opens from name true opened × FillsAll files place size old opened new to)
+    × ((opened : S) × files.opens from name 0 true opened × FillsAll files place size old opened new to)
 
 -- the bytes of a side file come into a store
 abbrev pub TellsFile : {S : Type 0} → Files S → Place → List ℕ → S → S → Stage → Told → Stage → Type 0

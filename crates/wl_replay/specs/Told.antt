@@ -6,7 +6,6 @@ use Rattle.wl_session.specs.View.{SessionView}
 use Rattle.spec_desktop.specs.Act.{Act}
 use Rattle.spec_desktop.specs.Desktop.{empty}
 use Rattle.spec_desktop.specs.Happens.{Happens}
-use Rattle.spec_desktop.specs.LeftOut.{nothing_left_out}
 use Rattle.spec_desktop.specs.Scratch.{scratch}
 use Rattle.spec_desktop.specs.Stacked.{all_windows}
 use Rattle.spec_desktop.specs.declared.answers.Done.{Done}
@@ -16,7 +15,7 @@ use Rattle.wl_session.specs.Events.{AreApart, AreEvents, Event, Moment}
 use Rattle.wl_session.specs.Frame.{color_at, filled}
 use Rattle.wl_session.specs.Liars.{AreLiars, IsRightBut, nobody}
 use Rattle.wl_session.specs.Unmarked.{is_covered}
-use Rattle.wl_session.specs.declared.sessions.Config.{Config}
+use Rattle.wl_session.specs.Config.{Config}
 
 -- what is told: the report, the images of the frames, how many frames there were, and how many clients connected
 pub record Told : Type 0 where
@@ -45,7 +44,7 @@ pub record Stands (session : SessionView) (stage : Stage) : Type 0 where
   pub damage : session.damage ≡ stage.now.damage
   pub frame : session.frame ≡ stage.now.frame
   pub right : IsRightBut nobody stage.first
-  pub led : AreEvents nothing_left_out stage.first stage.events stage.now
+  pub led : AreEvents stage.first stage.events stage.now
   pub apart : AreApart stage.events
 
 -- At first nothing has happened: there is no client, the image is the background, and nothing is to be painted.
@@ -65,10 +64,10 @@ pub record IsFirst (config : Config) (stage : Stage) : Type 0 where
 
 -- A step leads from one stage to another: it happens, and its events are the next ones.
 pub record Steps (act : Act) (done : Done) (old new : Stage) : Type 0 where
-  pub happens : Happens nothing_left_out act done old.now.desktop new.now.desktop
+  pub happens : Happens act done old.now.desktop new.now.desktop
   pub events : List Event
   pub parts : AreParts act done (happenings events)
-  pub leads : AreEvents nothing_left_out old.now events new.now
+  pub leads : AreEvents old.now events new.now
   pub later : new.events ≡ old.events ++ events
   pub first : new.first ≡ old.first
 

@@ -67,12 +67,12 @@ fn load<A: Allocator + Copy, S: SideFiles>(
     side: &mut S,
 ) -> Result<bool, SideFault>
     requires { place.at ≤ size }
-    ensures filled { result ≡ Ok true → (opened : S) × S.opens side.old name.now true opened × ((old : Stage) → Stands session.old old
+    ensures filled { result ≡ Ok true → (opened : S) × S.opens side.old name.now 0 true opened × ((old : Stage) → Stands session.old old
         → (new : Stage) × FillsAll (files_of S.opens S.gives S.fault_count) place size old opened new side.new × Stands session.new new) }
-    ensures missing { result ≡ Ok false → S.opens side.old name.now false side.new }
+    ensures missing { result ≡ Ok false → S.opens side.old name.now 0 false side.new }
     ensures faults { CountsFault (S.fault_count side.old) (S.fault_count side.new) result }
 {
-    if !side.open(name)? {
+    if !side.open(name, 0)? {
         return Ok(false);
     }
     fill(session, place, size, side)?;

@@ -36,7 +36,6 @@ use Rattle.spec_desktop.specs.Changing.{changed_for}
 use Rattle.spec_desktop.specs.Demand.{Demand, CommitTree, EndToplevel}
 use Rattle.spec_desktop.specs.Demanding.{demand_of, effect_of_commit, judge_all}
 use Rattle.spec_desktop.specs.Desktop.{Desktop, Resident, unpointed}
-use Rattle.spec_desktop.specs.LeftOut.{nothing_left_out}
 use Rattle.law_desktop.specs.Ordered.{OwnsOrdered}
 use Rattle.wl_requests.specs.Residents.{AnswersAs, AnswersGiven, AnswersPlacedAs, AnswersSo, IsResident, NewIsFree, ObjectsFit, Stacks, StacksBy, StacksFor, StacksIf, StacksSo, StacksTo, TakesAs, TakesSo}
 use Rattle.wl_requests.specs.Grabbing.{IsGrabbingFor}
@@ -56,7 +55,7 @@ use Rattle.wl_requests.proofs.Shelling.{meets-from, new-free, refused-whole}
 
 -- a seat has no keyboard and no touch
 pub seat-refused : (r : Resident) (object version : ℕ) (request : WlSeatRequest) → ((id : ℕ) × (request ≡ GetKeyboard id)) ⊎ ((id : ℕ) × (request ≡ GetTouch id))
-    → demand_of nothing_left_out r object version (wl_seat_request request) ≡ Err (record { object = object; code = MissingCapability })
+    → demand_of r object version (wl_seat_request request) ≡ Err (record { object = object; code = MissingCapability })
 seat-refused r object version request (inl is) = rw is.1 refl
 seat-refused r object version request (inr is) = rw is.1 refl
 
@@ -77,10 +76,10 @@ first-refused-by : {A : Type 0} (old new : Kept A) (c : ℕ) (r : Resident) (d :
     → (q : Peer) × Errs refusal r.peer q × IsPeer new.client q → TakesSo s c r d old new Stays
 first-refused-by old new c r d refusal (Whole object opcode size) why is ended errs =
     let body = take (size - 8) (drop 8 r.peer.rest) in
-    let judged : judge_all nothing_left_out r object opcode body ≡ Err refusal =
-    judged-refused r.peer.objects r.peer.held (λ version m. demand_of nothing_left_out r object version m) opcode body (r.peer.objects object) refusal
+    let judged : judge_all r object opcode body ≡ Err refusal =
+    judged-refused r.peer.objects r.peer.held (λ version m. demand_of r object version m) opcode body (r.peer.objects object) refusal
     (passing-peer old.client r.peer object opcode size (Err refusal) is.peer why) in (
-      refused-whole old new c (with_peer (with_rest (drop size r.peer.rest) r.peer) r) d (judge_all nothing_left_out r object opcode body) refusal judged ended
+      refused-whole old new c (with_peer (with_rest (drop size r.peer.rest) r.peer) r) d (judge_all r object opcode body) refusal judged ended
           (errs.0, Errs-rest refusal r.peer errs.0 (drop size r.peer.rest) errs.1, errs.2),
       subst (λ (j : Result Demand Refusal). StacksSo old r j Stays) (sym judged) tt,
     )
@@ -186,35 +185,35 @@ module _ {A : Type 0} (old : Kept A) (r : Resident) (object version size target 
       ∙ judged-passing r.peer.objects r.peer.held asks m.opcode body (record { interface = m.interface; version = version }) m
       (ap (λ (o : Option Object). passing r.peer.objects r.peer.held m.opcode body o) (sym object-there) ∙ passed)
 
-  pub demanded-first : judge_all nothing_left_out r object m.opcode body ≡ demand_of nothing_left_out left object version m
-  demanded-first = sym (judged-behind nothing_left_out r object m.opcode body (drop size r.peer.rest)) ∙ judged-by (λ version m. demand_of nothing_left_out left object version m)
+  pub demanded-first : judge_all r object m.opcode body ≡ demand_of left object version m
+  demanded-first = sym (judged-behind r object m.opcode body (drop size r.peer.rest)) ∙ judged-by (λ version m. demand_of left object version m)
 
   pub whole-first : split_of r.peer.rest ≡ Whole object m.opcode size
   whole-first = ap split_of (sym is.peer.rest) ∙ passes.first
 
   pub first-taken : (mid new : Kept A) (stacking : Stacking) → mid ≡ record old { client = record old.client { rest = drop size old.client.rest } }
-      → (placing : Placing) (grabbing : Grabbing) (k : Kind) → AnswersGiven placing grabbing k object (λ r. demand_of nothing_left_out r object version m) mid new
-      → Stacks (λ r. demand_of nothing_left_out r object version m) mid stacking → (c : ℕ) (d : Desktop) → OwnsOrdered r → IsPlacingFor placing object k c r d
+      → (placing : Placing) (grabbing : Grabbing) (k : Kind) → AnswersGiven placing grabbing k object (λ r. demand_of r object version m) mid new
+      → Stacks (λ r. demand_of r object version m) mid stacking → (c : ℕ) (d : Desktop) → OwnsOrdered r → IsPlacingFor placing object k c r d
       → IsGrabbingFor grabbing k c r d → TakesSo (split_of r.peer.rest) c r d old new stacking
   first-taken mid new stacking same placing grabbing k answers stacks c d only placed given =
       let there = dropped old mid r size same is in
       let objects : mid.client.objects ≡ old.client.objects = ap (λ (k : Kept A). k.client.objects) same in
       let has : OwnsOrdered left = ordered-peer r left.peer refl refl (no-more r.peer.requests) only in
       subst (λ (s : Split). TakesSo s c r d old new stacking) (sym whole-first) (
-        subst (λ (j : Result Demand Refusal). AnswersSo j c left d old new) (sym demanded-first) (answers-from old mid new c left d (demand_of nothing_left_out left object version m) objects
+        subst (λ (j : Result Demand Refusal). AnswersSo j c left d old new) (sym demanded-first) (answers-from old mid new c left d (demand_of left object version m) objects
             (answers c left d there has (placed-behind placing object k c r left.peer d placed) (grabbing-behind grabbing k c r left.peer d given))),
-        subst (λ (j : Result Demand Refusal). StacksSo old r j stacking) (sym demanded-first) (stacks-from old mid r (drop size r.peer.rest) (demand_of nothing_left_out left object version m) stacking
+        subst (λ (j : Result Demand Refusal). StacksSo old r j stacking) (sym demanded-first) (stacks-from old mid r (drop size r.peer.rest) (demand_of left object version m) stacking
             objects (stacks left there has)),
       )
 
   -- the same where it is known whether it was done
   pub first-decided : (mid new : Kept A) (done : Bool) → mid ≡ record old { client = record old.client { rest = drop size old.client.rest } }
-      → (placing : Placing) (k : Kind) → AnswersPlacedAs done placing k object (λ r. demand_of nothing_left_out r object version m) mid new
+      → (placing : Placing) (k : Kind) → AnswersPlacedAs done placing k object (λ r. demand_of r object version m) mid new
       → (c : ℕ) (d : Desktop) → OwnsOrdered r → IsPlacingFor placing object k c r d → TakesAs done (split_of r.peer.rest) c r d old new
   first-decided mid new done same placing k answers c d only placed =
       let there = dropped old mid r size same is in
       let objects : mid.client.objects ≡ old.client.objects = ap (λ (k : Kept A). k.client.objects) same in
       let has : OwnsOrdered left = ordered-peer r left.peer refl refl (no-more r.peer.requests) only in
       subst (λ (s : Split). TakesAs done s c r d old new) (sym whole-first)
-      (subst (λ (j : Result Demand Refusal). AnswersAs done j c left d old new) (sym demanded-first) (decided-from done old mid new c left d (demand_of nothing_left_out left object version m) objects
+      (subst (λ (j : Result Demand Refusal). AnswersAs done j c left d old new) (sym demanded-first) (decided-from done old mid new c left d (demand_of left object version m) objects
       (answers c left d there has (placed-behind placing object k c r left.peer d placed))))

@@ -176,18 +176,12 @@ told-none placed serial (Some k) e = at k.role e
 -- a commit that configures nothing tells nothing, and draws no serial
 pub told-still : (act : ShellAct) (serial : ℕ) (k : Option Kept) (p : Peer) → ((placed : Option Placed) → act ≡ Configure placed → ⊥) → (act_told act serial k ≡ []) × (drawn_by act p ≡ p)
 told-still (Configure placed) serial k p other = absurd (other placed refl)
-told-still Map serial k p other = (refl, refl)
-told-still Unmap serial k p other = (refl, refl)
-told-still (Place placed) serial k p other = (refl, refl)
-told-still Nothing serial k p other = (refl, refl)
+told-still act serial k p other = (refl, refl)
 
 -- a serial is drawn of a client that lives on
 pub drawn-status : (act : ShellAct) (p : Peer) → (drawn_by act p).status ≡ p.status
 drawn-status (Configure placed) p = refl
-drawn-status Map p = refl
-drawn-status Unmap p = refl
-drawn-status (Place placed) p = refl
-drawn-status Nothing p = refl
+drawn-status act p = refl
 
 -- ---- the size of its buffer is looked at after the shell's own errors
 

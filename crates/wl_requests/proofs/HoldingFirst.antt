@@ -7,7 +7,6 @@ use Rattle.spec_desktop.specs.declared.refusals.Refusal.{Refusal}
 use Rattle.spec_desktop.specs.Demand.{Demand}
 use Rattle.spec_desktop.specs.Demanding.{demand_of}
 use Rattle.spec_desktop.specs.Desktop.{Desktop, Resident}
-use Rattle.spec_desktop.specs.LeftOut.{nothing_left_out}
 use Rattle.spec_desktop.specs.Step.{with_peer}
 use Rattle.wl_proto.specs.Messages.{Message, wl_surface_request}
 use Rattle.wl_proto.specs.declared.wl_surface.WlSurfaceRequest.{WlSurfaceRequest}
@@ -28,22 +27,22 @@ use Rattle.wl_wire.specs.declared.header.Split.{Split}
 -- the surface of a commit is what a popup is placed for
 pub held-placed : {A : Type 0} (done : Bool) (old new : Kept A) (placing : Placing) (object version : ℕ) (k : Kind) (request : WlSurfaceRequest) (m : Message) → k ≡ kinds.Surface request
     → m ≡ wl_surface_request request
-    → HoldsPlaced done placing (kinds.Surface request) object (λ r. demand_of nothing_left_out r object version (wl_surface_request request)) old new
-    → HoldsPlaced done placing k object (λ r. demand_of nothing_left_out r object version m) old new
+    → HoldsPlaced done placing (kinds.Surface request) object (λ r. demand_of r object version (wl_surface_request request)) old new
+    → HoldsPlaced done placing k object (λ r. demand_of r object version m) old new
 held-placed done old new placing object version k request m is told h = λ c r d its only placed so.
-    subst (λ (x : Message). HoldsSo (demand_of nothing_left_out r object version x) c r d old new) (sym told)
+    subst (λ (x : Message). HoldsSo (demand_of r object version x) c r d old new) (sym told)
     (h c r d its only (subst (λ (j : Kind). IsPlacingFor placing object j c r d) is placed) so)
 
 -- nothing else places a popup
 pub held-message : {A : Type 0} (done : Bool) (old new : Kept A) (placing : Placing) (object version : ℕ) (k : Kind) (m n : Message) → m ≡ n
-    → HoldsAs done (λ r. demand_of nothing_left_out r object version n) old new → HoldsPlaced done placing k object (λ r. demand_of nothing_left_out r object version m) old new
+    → HoldsAs done (λ r. demand_of r object version n) old new → HoldsPlaced done placing k object (λ r. demand_of r object version m) old new
 held-message done old new placing object version k m n told h = λ c r d its only placed so.
-    subst (λ (x : Message). HoldsSo (demand_of nothing_left_out r object version x) c r d old new) (sym told) (h c r d its only so)
+    subst (λ (x : Message). HoldsSo (demand_of r object version x) c r d old new) (sym told) (h c r d its only so)
 
 -- it is taken first
 pub first-held : {A : Type 0} (old : Kept A) (r : Resident) (object version size target : ℕ) (m : Message) (passes : Passes old.client object version size target m) (is : IsResident old r)
     (mid new : Kept A) (done : Bool) → mid ≡ record old { client = record old.client { rest = drop size old.client.rest } } → (placing : Placing) (k : Kind)
-    → HoldsPlaced done placing k object (λ r. demand_of nothing_left_out r object version m) mid new → (c : ℕ) (d : Desktop) → OwnsOrdered r → IsPlacingFor placing object k c r d → done ≡ true
+    → HoldsPlaced done placing k object (λ r. demand_of r object version m) mid new → (c : ℕ) (d : Desktop) → OwnsOrdered r → IsPlacingFor placing object k c r d → done ≡ true
     → HoldsFirst (split_of r.peer.rest) c r d old new
 first-held {A} old r object version size target m passes is mid new done same placing k holds c d only placed so =
     let left = with_peer (with_rest (drop size r.peer.rest) r.peer) r in
@@ -52,4 +51,4 @@ first-held {A} old r object version size target m passes is mid new done same pl
     let has : OwnsOrdered left = ordered-peer r left.peer refl refl (no-more r.peer.requests) only in
     subst (λ (s : Split). HoldsFirst s c r d old new) (sym (whole-first old r object version size target m passes is))
     (subst (λ (j : Result Demand Refusal). HoldsSo j c left d old new) (sym (demanded-first old r object version size target m passes is))
-    (held-so old mid new (demand_of nothing_left_out left object version m) c left d objects (holds c left d there has (placed-behind placing object k c r left.peer d placed) so)))
+    (held-so old mid new (demand_of left object version m) c left d objects (holds c left d there has (placed-behind placing object k c r left.peer d placed) so)))

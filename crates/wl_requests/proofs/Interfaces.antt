@@ -23,23 +23,11 @@ use Rattle.wl_table.specs.declared.entry.Entry.{Entry}
 
 pub of-surface : (request : WlSurfaceRequest) → (wl_surface_request request).interface ≡ WlSurface
 of-surface surface.Destroy = refl
-of-surface (surface.Attach buffer x y) = refl
-of-surface (surface.Damage x y width height) = refl
-of-surface (surface.Frame callback) = refl
-of-surface (surface.SetOpaqueRegion region) = refl
-of-surface (surface.SetInputRegion region) = refl
-of-surface surface.Commit = refl
-of-surface (surface.SetBufferTransform transform) = refl
-of-surface (surface.SetBufferScale scale) = refl
-of-surface (surface.DamageBuffer x y width height) = refl
+of-surface request = refl
 
 pub of-subsurface : (request : WlSubsurfaceRequest) → (wl_subsurface_request request).interface ≡ WlSubsurface
 of-subsurface subsurface.Destroy = refl
-of-subsurface (subsurface.SetPosition x y) = refl
-of-subsurface (subsurface.PlaceAbove sibling) = refl
-of-subsurface (subsurface.PlaceBelow sibling) = refl
-of-subsurface subsurface.SetSync = refl
-of-subsurface subsurface.SetDesync = refl
+of-subsurface request = refl
 
 pub of-subcompositor : (request : WlSubcompositorRequest) → (wl_subcompositor_request request).interface ≡ WlSubcompositor
 of-subcompositor subcompositor.Destroy = refl
@@ -47,21 +35,15 @@ of-subcompositor (subcompositor.GetSubsurface id child parent) = refl
 
 pub of-base : (request : XdgWmBaseRequest) → (xdg_wm_base_request request).interface ≡ XdgWmBase
 of-base base.Destroy = refl
-of-base (base.CreatePositioner id) = refl
-of-base (base.GetXdgSurface id wl_surface) = refl
-of-base (base.Pong serial) = refl
+of-base request = refl
 
 pub of-xdg-surface : (request : XdgSurfaceRequest) → (xdg_surface_request request).interface ≡ XdgSurface
 of-xdg-surface xdg.Destroy = refl
-of-xdg-surface (xdg.GetToplevel id) = refl
-of-xdg-surface (xdg.GetPopup id parent positioner) = refl
-of-xdg-surface (xdg.SetWindowGeometry x y width height) = refl
-of-xdg-surface (xdg.AckConfigure serial) = refl
+of-xdg-surface request = refl
 
 pub of-popup : (request : XdgPopupRequest) → (xdg_popup_request request).interface ≡ XdgPopup
 of-popup popup.Destroy = refl
-of-popup (popup.Grab by serial) = refl
-of-popup (popup.Reposition positioner token) = refl
+of-popup request = refl
 
 -- the object in the table is of the interface of its entry
 pub object-is : (interface : Interface) (held : Held) (id : ℕ) (entry : Entry) → entry_of held id ≡ Some entry → entry.interface ≡ interface → is_of interface (objects_in held id) ≡ true

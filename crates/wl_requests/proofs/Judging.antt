@@ -29,7 +29,6 @@ use Rattle.wl_shell.specs.Kept.{kept_of}
 use Rattle.wl_shell.specs.Shell.{xdg_of}
 use Rattle.wl_surface.specs.Surface.{Surface}
 use Rattle.wl_surface.specs.declared.role.Role.{Role}
-use Rattle.wl_surface.specs.declared.role.Role.TheVariants as roles
 use Rattle.wl_links.specs.Subsurfaces.{IsSetAt}
 use Rattle.wl_surface.specs.declared.error.SurfaceError.{SurfaceError}
 use Rattle.wl_surface.specs.declared.error.SurfaceError.TheVariants as error
@@ -75,10 +74,7 @@ copied-there (Some x) = refl
 
 same-role : (o : Option Role) → is_other_role o ≡ is_no_subsurface o
 same-role None = refl
-same-role (Some roles.Toplevel) = refl
-same-role (Some roles.Popup) = refl
-same-role (Some roles.Subsurface) = refl
-same-role (Some roles.Cursor) = refl
+same-role o = refl
 
 pub role-same : (o : Option Surface) → role_at o ≡ option_and_then (λ (s : Surface). s.role) o
 role-same None = refl

@@ -13,7 +13,6 @@ use Rattle.spec_desktop.specs.Happens.{wants_memory}
 use Rattle.spec_desktop.specs.Replies.{own_answers, releases, replies}
 use Rattle.spec_desktop.specs.Stacked.{all_windows}
 use Rattle.spec_desktop.specs.Step.{changed_by, takes_memory, with_peer}
-use Rattle.spec_desktop.specs.LeftOut.{nothing_left_out}
 use Rattle.law_desktop.specs.InOrder.{may_dismiss}
 use Rattle.law_desktop.proofs.InOrder.Dismissed.{others_dismiss_none}
 use Rattle.law_desktop.proofs.KeptRecords.Toplevels.Releases.{asked-told}
@@ -62,20 +61,20 @@ counted-ordered r ordered = ordered-peer r (counted r.peer) refl refl (one-more 
 
 module _ {A : Type 0} (old new : Kept A) (c : ℕ) (d : Desktop) where
   module _ (demand : Demand) (r : Resident) (none : may_dismiss demand ≡ false) where
-    events-same : replies nothing_left_out c demand r (changed_for c demand r (unpointed d)) (all_windows d) (unpointed d) ≡ told_for c demand r d
+    events-same : replies c demand r (changed_for c demand r (unpointed d)) (all_windows d) (unpointed d) ≡ told_for c demand r d
     events-same =
         ap (λ more. own_answers c demand r (all_windows d) (unpointed d) ++ releases r (changed_for c demand r (unpointed d)) ++ more) (others_dismiss_none c demand r (unpointed d) none)
         ∙ append-nil (told_for c demand r d)
 
     queues-same : (q : Peer) → Queues (told_for c demand r d) (changed_for c demand r (unpointed d)).peer q
-        → Queues (replies nothing_left_out c demand r (changed_for c demand r (unpointed d)) (all_windows d) (unpointed d)) (changed_for c demand r (unpointed d)).peer q
+        → Queues (replies c demand r (changed_for c demand r (unpointed d)) (all_windows d) (unpointed d)) (changed_for c demand r (unpointed d)).peer q
     queues-same q h = subst (λ (events : List Said). Queues events (changed_for c demand r (unpointed d)).peer q) (sym events-same) h
 
     pub meets-so : ActsSo c demand r d old new → MeetsSo c demand r d old new
     meets-so h = (h.0, at (wants_memory demand) h.1, h.2)
       where
         at : (b : Bool) → WantsOr b (Queues (told_for c demand r d) (changed_for c demand r (unpointed d)).peer h.0) r.peer h.0
-            → WantsOr b (Queues (replies nothing_left_out c demand r (changed_for c demand r (unpointed d)) (all_windows d) (unpointed d)) (changed_for c demand r (unpointed d)).peer h.0) r.peer h.0
+            → WantsOr b (Queues (replies c demand r (changed_for c demand r (unpointed d)) (all_windows d) (unpointed d)) (changed_for c demand r (unpointed d)).peer h.0) r.peer h.0
         at true (inl lacks) = inl lacks
         at true (inr told) = inr (queues-same h.0 told)
         at false told = queues-same h.0 told

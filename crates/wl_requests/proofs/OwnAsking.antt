@@ -18,8 +18,7 @@ use Rattle.spec_desktop.specs.Used.{has_used, keeps_store}
 use Rattle.wl_client.specs.View.{ClientView}
 use Rattle.spec_desktop.specs.declared.actions.Action.{Action}
 use Rattle.spec_desktop.specs.declared.refusals.Refusal.{Refusal}
-use Rattle.spec_desktop.specs.declared.actions.Action.TheVariants.{Sync, GetRegistry, Bind, CreateRegion, AddToRegion, SubtractFromRegion, DestroyRegion, CreatePool, CreateBuffer, ResizePool, DestroyPool}
-use Rattle.spec_desktop.specs.declared.actions.Action.TheVariants.{DestroyBuffer, CreatePositioner, SetPositioner, DestroyPositioner}
+use Rattle.spec_desktop.specs.declared.actions.Action.TheVariants.{DestroyBuffer}
 use Rattle.wl_surface.specs.Slots.{has_at}
 use Rattle.wl_surface.specs.Surface.{has}
 use Rattle.wl_surface.specs.Surfaces.{is_used}
@@ -31,7 +30,6 @@ use Rattle.spec_desktop.specs.Ask.{owns, Own}
 use Rattle.spec_desktop.specs.Demand.{Demand}
 use Rattle.spec_desktop.specs.Demanding.{demand_of, demands, judge_all}
 use Rattle.spec_desktop.specs.Desktop.{Desktop, Resident}
-use Rattle.spec_desktop.specs.LeftOut.{nothing_left_out}
 use Rattle.law_desktop.specs.Ordered.{OwnsOrdered}
 use Rattle.law_desktop.specs.Owning.{Names, by_number, target_as, targets_in}
 use Rattle.law_desktop.specs.RoleNames.{names_of, role_target, roles_in}
@@ -106,7 +104,7 @@ names-kept old new keeps =
 
 -- one of the client's own interfaces
 own-asked : (interface : Interface) (r : Resident) (object version : ℕ) (m : Message) → is_own interface ≡ true
-    → m.interface ≡ interface → demand_of nothing_left_out r object version m ≡ demands (owns (action_of (known_of r.peer) object version (request_of m)))
+    → m.interface ≡ interface → demand_of r object version m ≡ demands (owns (action_of (known_of r.peer) object version (request_of m)))
 own-asked WlDisplay r object version m own is = rw is refl
 own-asked WlRegistry r object version m own is = rw is refl
 own-asked WlRegion r object version m own is = rw is refl
@@ -117,7 +115,7 @@ own-asked XdgPositioner r object version m own is = rw is refl
 own-asked interface r object version m own is = absurd (cc)
 
 pub own-demand-of : (r : Resident) (object version : ℕ) (m : Message) → is_own m.interface ≡ true
-    → demand_of nothing_left_out r object version m ≡ demands (owns (action_of (known_of r.peer) object version (request_of m)))
+    → demand_of r object version m ≡ demands (owns (action_of (known_of r.peer) object version (request_of m)))
 own-demand-of r object version m own = own-asked m.interface r object version m own refl
 
 -- what it leaves
@@ -141,24 +139,11 @@ kept-requests true stores p = refl
 kept-requests false stores p = refl
 
 own-requests : (action : Action) (left : Resident) (n : ℕ) → n ≤ left.peer.requests → n ≤ (changed_by (Own action) (with_peer (counted left.peer) left)).peer.requests
-own-requests (Sync callback) left n le = omega (arith, le)
-own-requests (GetRegistry registry) left n le = omega (arith, le)
-own-requests (Bind id interface version) left n le = omega (arith, le)
-own-requests (CreateRegion id version) left n le = omega (arith, le)
-own-requests (AddToRegion id rect) left n le = omega (arith, le)
-own-requests (SubtractFromRegion id rect) left n le = omega (arith, le)
-own-requests (DestroyRegion id) left n le = omega (arith, le)
-own-requests (CreatePool id version size) left n le = omega (arith, le)
-own-requests (CreateBuffer id version buffer) left n le = omega (arith, le)
-own-requests (ResizePool store size) left n le = omega (arith, le)
-own-requests (DestroyPool id store) left n le = omega (arith, le)
-own-requests (CreatePositioner id version) left n le = omega (arith, le)
-own-requests (SetPositioner id setting) left n le = omega (arith, le)
-own-requests (DestroyPositioner id) left n le = omega (arith, le)
 own-requests (DestroyBuffer id store) left n le =
     subst (λ (m : ℕ). n ≤ m)
     (sym (kept-requests (has_used (λ number. is_used number left.owned.surfaces) (left.peer.buffers id)) left.peer.stores (changed (DestroyBuffer id store) (counted left.peer))))
     (omega (arith, le))
+own-requests action left n le = omega (arith, le)
 
 own-answered : {A : Type 0} (old new : Kept A) (r left : Resident) (judged : Result Action Refusal) (q : Peer) → IsResident old r → left.owned ≡ r.owned → left.callbacks ≡ r.callbacks
     → left.subsurfaces ≡ r.subsurfaces → r.peer.requests ≤ left.peer.requests → new.owned ≡ old.owned → new.subsurfaces ≡ old.subsurfaces → (new.client.ended ≡ None
@@ -185,7 +170,7 @@ own-served old new r q is (object, version, size, target, m, passes, own) same k
     let left : Resident = with_peer (with_rest (drop size r.peer.rest) r.peer) r in
     let action : Result Action Refusal = action_of (known_of r.peer) object version (request_of m) in
     let used : ℕ → Bool = λ number. is_used number r.owned.surfaces in
-    let judged : judge_all nothing_left_out r object m.opcode body ≡ demands (owns action) = demanded-first old r object version size target m passes is ∙ own-demand-of left object version m own in
+    let judged : judge_all r object m.opcode body ≡ demands (owns action) = demanded-first old r object version size target m passes is ∙ own-demand-of left object version m own in
     let judged_own : judge_own (known_of r.peer) object m.opcode body ≡ action =
     judged-by old r object version size target m passes is (λ version m. action_of (known_of r.peer) object version (request_of m)) in
     let taken : TakesWith used (Whole object m.opcode size) r.peer q = subst (λ (s : Split). TakesWith used s r.peer q) whole serves.1 in

@@ -48,7 +48,6 @@ use Rattle.spec_desktop.specs.Ask.{Ask, Ignore, owns}
 use Rattle.spec_desktop.specs.Demand.{Asks, CommitTree, Demand, EndSurface}
 use Rattle.spec_desktop.specs.Demanding.{committed_by, demand_of, demands, effect_of_commit, if_whole, toplevel_asked, xdg_asked}
 use Rattle.spec_desktop.specs.Desktop.{Resident}
-use Rattle.spec_desktop.specs.LeftOut.{nothing_left_out}
 use Rattle.spec_desktop.specs.XdgPopup.{grab_of, is_no_popup, may_be_parent, popup_asked, popup_made, positioner_of, repositioned_by}
 use Rattle.wl_shell.specs.Popups.{Popped, is_parent, is_popup_mapped, popup_at, is_configured}
 use Rattle.wl_shell.specs.Positioner.{Positioner, is_complete}
@@ -86,7 +85,7 @@ module _ (numbers : ById ℕ) where
   if-nothing true x y f g = f
   if-nothing false x y f g = g
 
-  compositor-nothing : (r : Resident) (object version : ℕ) (request : WlCompositorRequest) → AsksPointerSo numbers (demand_of nothing_left_out r object version (wl_compositor_request request)) Nothing
+  compositor-nothing : (r : Resident) (object version : ℕ) (request : WlCompositorRequest) → AsksPointerSo numbers (demand_of r object version (wl_compositor_request request)) Nothing
   compositor-nothing r object version (compositor.CreateSurface id) = alone (surface_created r id version)
   compositor-nothing r object version (compositor.CreateRegion id) = refl
 
@@ -109,18 +108,13 @@ module _ (numbers : ById ℕ) where
   whole-nothing false object (Ok demand) nothing = tt
   whole-nothing false object (Err refusal) nothing = tt
 
-  surface-nothing : (r : Resident) (object version : ℕ) (request : WlSurfaceRequest) → AsksPointerSo numbers (demand_of nothing_left_out r object version (wl_surface_request request)) Nothing
+  surface-nothing : (r : Resident) (object version : ℕ) (request : WlSurfaceRequest) → AsksPointerSo numbers (demand_of r object version (wl_surface_request request)) Nothing
   surface-nothing r object version surface.Destroy = ended-nothing object (is_some (xdg_of object r.owned.shell)) _
-  surface-nothing r object version (surface.Attach buffer x y) = refl
-  surface-nothing r object version (surface.Damage x y width height) = refl
-  surface-nothing r object version (surface.Frame callback) = refl
-  surface-nothing r object version (surface.SetOpaqueRegion region) = refl
-  surface-nothing r object version (surface.SetInputRegion region) = refl
   surface-nothing r object version surface.Commit =
       whole-nothing (will_be_whole r object) object _ (committed-nothing (xdg_of object r.owned.shell) object (effect_of_commit r object))
   surface-nothing r object version (surface.SetBufferTransform transform) = alone (transform_set object transform)
   surface-nothing r object version (surface.SetBufferScale scale) = alone (scale_set object scale)
-  surface-nothing r object version (surface.DamageBuffer x y width height) = refl
+  surface-nothing r object version request = refl
 
   made-nothing : (r : Resident) (x : Xdg) (version id parent : ℕ) (p : Positioner) → AsksPointerSo numbers (popup_made r x version id parent p) Nothing
   made-nothing r x version id parent p =
@@ -136,7 +130,7 @@ module _ (numbers : ById ℕ) where
   xdg-asked-nothing r (Some x) version (requests.SetWindowGeometry a b width height) = alone (geometry_set x (rect a b width height))
   xdg-asked-nothing r (Some x) version (requests.AckConfigure serial) = alone (acknowledged_by x serial)
 
-  xdg-nothing : (r : Resident) (object version : ℕ) (request : XdgSurfaceRequest) → AsksPointerSo numbers (demand_of nothing_left_out r object version (xdg_surface_request request)) Nothing
+  xdg-nothing : (r : Resident) (object version : ℕ) (request : XdgSurfaceRequest) → AsksPointerSo numbers (demand_of r object version (xdg_surface_request request)) Nothing
   xdg-nothing r object version requests.Destroy = xdg-asked-nothing r (xdg_at object r.owned.shell) version requests.Destroy
   xdg-nothing r object version (requests.GetToplevel id) = xdg-asked-nothing r (xdg_at object r.owned.shell) version (requests.GetToplevel id)
   xdg-nothing r object version (requests.GetPopup id parent positioner) = xdg-asked-nothing r (xdg_at object r.owned.shell) version (requests.GetPopup id parent positioner)
@@ -166,7 +160,7 @@ module _ (numbers : ById ℕ) where
       at p None = tt
       at p (Some q) = if-nothing (is_configured q && is_full x.configures) _ _ tt (if-nothing (is_complete p) _ _ refl tt)
 
-  popup-nothing : (r : Resident) (object version : ℕ) (request : XdgPopupRequest) → AsksPointerSo numbers (demand_of nothing_left_out r object version (xdg_popup_request request)) Nothing
+  popup-nothing : (r : Resident) (object version : ℕ) (request : XdgPopupRequest) → AsksPointerSo numbers (demand_of r object version (xdg_popup_request request)) Nothing
   popup-nothing r object version popups.Destroy = destroyed-nothing r object (xdg_with object r.owned.shell)
   popup-nothing r object version (popups.Grab seat serial) = grab-nothing r object seat serial (xdg_with object r.owned.shell)
   popup-nothing r object version (popups.Reposition positioner token) = reposition-nothing r object positioner token (xdg_with object r.owned.shell)
@@ -184,7 +178,7 @@ module _ (numbers : ById ℕ) where
   linked-nothing r object (Some l) subsurface.SetSync = refl
   linked-nothing r object (Some l) subsurface.SetDesync = refl
 
-  subsurface-nothing : (r : Resident) (object version : ℕ) (request : WlSubsurfaceRequest) → AsksPointerSo numbers (demand_of nothing_left_out r object version (wl_subsurface_request request)) Nothing
+  subsurface-nothing : (r : Resident) (object version : ℕ) (request : WlSubsurfaceRequest) → AsksPointerSo numbers (demand_of r object version (wl_subsurface_request request)) Nothing
   subsurface-nothing r object version subsurface.Destroy = linked-nothing r object (link_of_subsurface object r) subsurface.Destroy
   subsurface-nothing r object version (subsurface.SetPosition x y) = linked-nothing r object (link_of_subsurface object r) (subsurface.SetPosition x y)
   subsurface-nothing r object version (subsurface.PlaceAbove sibling) = linked-nothing r object (link_of_subsurface object r) (subsurface.PlaceAbove sibling)
@@ -193,26 +187,26 @@ module _ (numbers : ById ℕ) where
   subsurface-nothing r object version subsurface.SetDesync = linked-nothing r object (link_of_subsurface object r) subsurface.SetDesync
 
   subcompositor-nothing : (r : Resident) (object version : ℕ) (request : WlSubcompositorRequest)
-      → AsksPointerSo numbers (demand_of nothing_left_out r object version (wl_subcompositor_request request)) Nothing
+      → AsksPointerSo numbers (demand_of r object version (wl_subcompositor_request request)) Nothing
   subcompositor-nothing r object version subcompositor.Destroy = refl
   subcompositor-nothing r object version (subcompositor.GetSubsurface id child parent) =
       if-nothing (is_too_deep r.owned.surfaces child parent) past_limit _ tt
       (if-nothing (is_no_subsurface (role_of r child) || (has_subsurface child r || is_some (xdg_of child r.owned.shell))) _ _ tt
       (if-nothing (is_bad_parent r.owned.surfaces child parent) _ _ tt refl))
 
-  cursor-nothing : (r : Resident) (object version : ℕ) (request : WlPointerRequest) → AsksPointerSo numbers (demand_of nothing_left_out r object version (wl_pointer_request request)) Nothing
+  cursor-nothing : (r : Resident) (object version : ℕ) (request : WlPointerRequest) → AsksPointerSo numbers (demand_of r object version (wl_pointer_request request)) Nothing
   cursor-nothing r object version (on_pointer.SetCursor serial surface x y) =
       if-nothing (surface == 0) (Ok (Asks Ignore)) _ refl
       (if-nothing (is_no_cursor (role_of r surface) || is_some (xdg_of surface r.owned.shell)) (refuses object HasAnotherRole) _ tt refl)
 
-  base-nothing : (r : Resident) (object version : ℕ) (request : XdgWmBaseRequest) → AsksPointerSo numbers (demand_of nothing_left_out r object version (xdg_wm_base_request request)) Nothing
+  base-nothing : (r : Resident) (object version : ℕ) (request : XdgWmBaseRequest) → AsksPointerSo numbers (demand_of r object version (xdg_wm_base_request request)) Nothing
   base-nothing r object version base.Destroy = alone _
   base-nothing r object version (base.CreatePositioner id) = refl
   base-nothing r object version (base.GetXdgSurface id surface) = alone _
   base-nothing r object version (base.Pong serial) = refl
 
   seat-asks : (r : Resident) (object version target : ℕ) (request : WlSeatRequest)
-      → AsksPointerSo numbers (demand_of nothing_left_out r object version (wl_seat_request request)) (pointer_asked_by target (kind.Seat request))
+      → AsksPointerSo numbers (demand_of r object version (wl_seat_request request)) (pointer_asked_by target (kind.Seat request))
   seat-asks r object version target (seat.GetPointer id) = refl
   seat-asks r object version target (seat.GetKeyboard id) = tt
   seat-asks r object version target (seat.GetTouch id) = tt
@@ -229,9 +223,9 @@ module _ (numbers : ById ℕ) where
   toplevel-asks object target x request named = refl
 
   -- a message that is this request
-  told-asks : (r : Resident) (object version : ℕ) (m n : Message) (asked : PointerAsked) → m ≡ n → AsksPointerSo numbers (demand_of nothing_left_out r object version n) asked
-      → AsksPointerSo numbers (demand_of nothing_left_out r object version m) asked
-  told-asks r object version m n asked told h = subst (λ (x : Message). AsksPointerSo numbers (demand_of nothing_left_out r object version x) asked) (sym told) h
+  told-asks : (r : Resident) (object version : ℕ) (m n : Message) (asked : PointerAsked) → m ≡ n → AsksPointerSo numbers (demand_of r object version n) asked
+      → AsksPointerSo numbers (demand_of r object version m) asked
+  told-asks r object version m n asked told h = subst (λ (x : Message). AsksPointerSo numbers (demand_of r object version x) asked) (sym told) h
 
 -- ---- a message that passes
 
@@ -240,7 +234,7 @@ module _ {A : Type 0} (v : Kept A) (r : Resident) (its : Owns v r) where
   numbered = targets_in WlSurface v.client.objects
 
   toplevel-told : (object version target : ℕ) (m : Message) (t : ToplevelAsked) → IsToplevel v object target → IsKind (kind.Toplevel t) m
-      → AsksPointerSo numbered (demand_of nothing_left_out r object version m) (pointer_asked_by target (kind.Toplevel t))
+      → AsksPointerSo numbered (demand_of r object version m) (pointer_asked_by target (kind.Toplevel t))
   toplevel-told object version target m t named is_it =
       let request = toplevel_request m.opcode m.fields in
       let one = toplevel-named (names_of v.client.objects) v.owned.surfaces.states v.owned.surfaces.family (kept_of v.owned.shell) r.owned its object target
@@ -251,7 +245,7 @@ module _ {A : Type 0} (v : Kept A) (r : Resident) (its : Owns v r) where
       (toplevel-asks numbered object target one.1 request one.3.surface)))
 
   pub kind-asks : (object version target : ℕ) (m : Message) (k : Kind) → IsKind k m → (m.interface ≡ XdgToplevel → IsToplevel v object target)
-      → AsksPointerSo numbered (demand_of nothing_left_out r object version m) (pointer_asked_by target k)
+      → AsksPointerSo numbered (demand_of r object version m) (pointer_asked_by target k)
   kind-asks object version target m (kind.Compositor request) is_it named = told-asks numbered r object version m _ Nothing is_it (compositor-nothing numbered r object version request)
   kind-asks object version target m (kind.Surface request) is_it named = told-asks numbered r object version m _ Nothing is_it (surface-nothing numbered r object version request)
   kind-asks object version target m (kind.Subcompositor request) is_it named = told-asks numbered r object version m _ Nothing is_it (subcompositor-nothing numbered r object version request)
@@ -271,7 +265,7 @@ module _ {A : Type 0} (v : Kept A) (r : Resident) (is : IsResident v r) where
 
   -- one that passes
   passed-asks : (object version size target : ℕ) (m : Message) (asked : PointerAsked) → Passes v.client object version size target m
-      → AsksPointerSo names (demand_of nothing_left_out (with_peer (with_rest (drop size r.peer.rest) r.peer) r) object version m) asked
+      → AsksPointerSo names (demand_of (with_peer (with_rest (drop size r.peer.rest) r.peer) r) object version m) asked
       → AsksPointerFirst names (split_of r.peer.rest) r asked
   passed-asks object version size target m asked passes h =
       subst (λ (s : Split). AsksPointerFirst names s r asked) (sym (whole-first v r object version size target m passes is))
@@ -279,7 +273,7 @@ module _ {A : Type 0} (v : Kept A) (r : Resident) (is : IsResident v r) where
 
   refused-asks : (s : Split) (refusal : Refusal) → IsRefused s v.client refusal → AsksPointerFirst names s r Nothing
   refused-asks (Whole object opcode size) refusal why =
-      let judged = judged-refused r.peer.objects r.peer.held (λ version m. demand_of nothing_left_out r object version m) opcode (take (size - 8) (drop 8 r.peer.rest)) (r.peer.objects object) refusal
+      let judged = judged-refused r.peer.objects r.peer.held (λ version m. demand_of r object version m) opcode (take (size - 8) (drop 8 r.peer.rest)) (r.peer.objects object) refusal
       (passing-peer v.client r.peer object opcode size (Err refusal) is.peer why) in
       subst (λ (j : Result Demand Refusal). AsksPointerSo names j Nothing) (sym judged) tt
   refused-asks Bad refusal why = tt

@@ -31,9 +31,7 @@ IsOther o = (other : Role) × (o ≡ Some other) × (other ≢ roles.Cursor)
 other-role : (o : Option Role) → IsOther o → is_no_cursor o ≡ true
 other-role None other = absurd (let none = other.1 in cc)
 other-role (Some roles.Cursor) other = absurd (other.2 (let same = other.1 in cc))
-other-role (Some roles.Toplevel) other = refl
-other-role (Some roles.Popup) other = refl
-other-role (Some roles.Subsurface) other = refl
+other-role o other = refl
 
 no-other : (o : Option Role) → (IsOther o → ⊥) → is_no_cursor o ≡ false
 no-other None never = refl

@@ -37,7 +37,6 @@ use Rattle.wl_shell.specs.Shell.{XdgSurface as Xdg, is_role, xdg_at, xdg_with}
 use Rattle.spec_desktop.specs.Changing.{changed_for, popup_given_to}
 use Rattle.spec_desktop.specs.Demand.{Demand, EndPopup, EndToplevel, GetPopup}
 use Rattle.spec_desktop.specs.Desktop.{Desktop, Resident, unpointed}
-use Rattle.spec_desktop.specs.LeftOut.{nothing_left_out}
 use Rattle.spec_desktop.specs.Replies.{popups_done, releases, replies}
 use Rattle.spec_desktop.specs.Stacked.{all_windows}
 use Rattle.spec_desktop.specs.Step.{making, with_peer}
@@ -227,7 +226,7 @@ module _ {A : Type 0} (old gone : Kept A) (w : ClientView) (shell : Book) (c : �
   abbrev those_told : List Said
   those_told = map done_told (undismissed (go_with x.id r.owned.shell) r.owned.shell)
 
-  events-are : replies nothing_left_out c ending counted_one ended_one (all_windows d) (unpointed d) ≡ id_deleted object ∷ those_told
+  events-are : replies c ending counted_one ended_one (all_windows d) (unpointed d) ≡ id_deleted object ∷ those_told
   events-are =
       ap (λ (es : List Said). id_deleted object ∷ (es ++ popups_done counted_one ended_one)) (still-released counted_one ended_one refl)
       ∙ ap (λ (es : List Said). id_deleted object ∷ es)

@@ -24,7 +24,6 @@ use Rattle.spec_desktop.specs.Ask.{Ignore}
 use Rattle.spec_desktop.specs.Changing.{changed_for, grab_allowed, grab_holder, grabbed, is_held_elsewhere, is_latest, is_serial}
 use Rattle.spec_desktop.specs.Demand.{Demand, Asks, Grab}
 use Rattle.spec_desktop.specs.Desktop.{Desktop, Resident, unpointed}
-use Rattle.spec_desktop.specs.LeftOut.{nothing_left_out}
 use Rattle.spec_desktop.specs.Replies.{popups_done, replies}
 use Rattle.spec_desktop.specs.Stacked.{all_windows}
 use Rattle.spec_desktop.specs.Step.{with_peer}
@@ -173,7 +172,7 @@ module _ {A : Type 0} (old new : Kept A) (c : ℕ) (r : Resident) (d : Desktop) 
   is_allowed = grab_allowed c x.id serial counted_one (unpointed d)
 
   abbrev all_told : Demand → List Said
-  all_told demand = replies nothing_left_out c demand counted_one (changed_for c demand counted_one (unpointed d)) (all_windows d) (unpointed d)
+  all_told demand = replies c demand counted_one (changed_for c demand counted_one (unpointed d)) (all_windows d) (unpointed d)
 
   events-are : (b : Bool) → is_allowed ≡ b → all_told (Grab x.id serial) ≡ grab_done b x.id r.owned.shell
   events-are b e =

@@ -22,12 +22,11 @@ use Rattle.wl_shell.specs.Popups.{Popped, is_parent, is_popup_mapped, is_topleve
 use Rattle.wl_shell.specs.Positioner.{Positioner, is_complete}
 use Rattle.wl_shell.specs.Shell.{Effect, XdgSurface as Xdg, xdg_at, xdg_of, xdg_with, is_full}
 use Rattle.wl_shell.specs.declared.acts.ShellAct.{ShellAct}
-use Rattle.wl_shell.specs.declared.acts.ShellAct.TheVariants.{Configure, Map, Unmap, Place, Nothing}
+use Rattle.wl_shell.specs.declared.acts.ShellAct.TheVariants.{Map, Unmap}
 use Rattle.spec_desktop.specs.Ask.{Ignore}
 use Rattle.spec_desktop.specs.Demand.{Asks, Demand, CommitTree}
 use Rattle.spec_desktop.specs.Demanding.{demand_of, demands, effect_of_commit, moved_by_pointer, toplevel_asked, toplevel_demand, toplevel_destroyed, xdg_asked}
 use Rattle.spec_desktop.specs.Desktop.{Resident}
-use Rattle.spec_desktop.specs.LeftOut.{nothing_left_out}
 use Rattle.law_desktop.specs.Owning.{effect_by}
 use Rattle.law_desktop.specs.RoleNames.{names_of}
 use Rattle.spec_desktop.specs.Requests.{toplevel_request, rect}
@@ -51,11 +50,9 @@ use Rattle.wl_requests.proofs.Meeting.{asks-stay}
 
 -- a commit
 stacks-by-act : {A : Type 0} (old : Kept A) (id number : ℕ) (act : ShellAct) → IsSurface old id number → StacksBy old id (effect_by act) (stacking_by act number)
-stacks-by-act old id number (Configure placed) named = refl
 stacks-by-act old id number Map named = (number, named, refl)
 stacks-by-act old id number Unmap named = (number, named, refl)
-stacks-by-act old id number (Place placed) named = refl
-stacks-by-act old id number Nothing named = refl
+stacks-by-act old id number act named = refl
 
 stacks-if-act : {A : Type 0} (old : Kept A) (id number : ℕ) (act : ShellAct) (toplevel : Bool) → IsSurface old id number
     → StacksIf toplevel old id (effect_by act) (if toplevel then stacking_by act number else Stays)
@@ -113,7 +110,7 @@ toplevel-state object o request is = absurd (cc)
 
 -- what is demanded of a toplevel
 pub toplevel-of : (r : Resident) (object version : ℕ) (m : Message) → m.interface ≡ XdgToplevel
-    → demand_of nothing_left_out r object version m ≡ toplevel_demand r object (toplevel_request m.opcode m.fields)
+    → demand_of r object version m ≡ toplevel_demand r object (toplevel_request m.opcode m.fields)
 toplevel-of r object version m is = rw is refl
 
 -- whichever of two it is
@@ -137,7 +134,7 @@ xdg-asked-stays old r (Some x) version (requests.SetWindowGeometry a b width hei
 xdg-asked-stays old r (Some x) version (requests.AckConfigure serial) = asks-stay old r (acknowledged_by x serial)
 
 pub xdg-stays : {A : Type 0} (old : Kept A) (r : Resident) (object version : ℕ) (request : XdgSurfaceRequest)
-    → StacksSo old r (demand_of nothing_left_out r object version (xdg_surface_request request)) Stays
+    → StacksSo old r (demand_of r object version (xdg_surface_request request)) Stays
 xdg-stays old r object version requests.Destroy = xdg-asked-stays old r (xdg_at object r.owned.shell) version requests.Destroy
 xdg-stays old r object version (requests.GetToplevel id) = xdg-asked-stays old r (xdg_at object r.owned.shell) version (requests.GetToplevel id)
 xdg-stays old r object version (requests.GetPopup id parent positioner) = xdg-asked-stays old r (xdg_at object r.owned.shell) version (requests.GetPopup id parent positioner)
@@ -166,7 +163,7 @@ reposition-stays old r object positioner token (Some x) = at (positioner_of (r.p
     at p (Some q) = if-stays old r (is_configured q && is_full x.configures) _ _ tt (if-stays old r (is_complete p) _ _ refl tt)
 
 pub popup-stays : {A : Type 0} (old : Kept A) (r : Resident) (object version : ℕ) (request : XdgPopupRequest)
-    → StacksSo old r (demand_of nothing_left_out r object version (xdg_popup_request request)) Stays
+    → StacksSo old r (demand_of r object version (xdg_popup_request request)) Stays
 popup-stays old r object version popups.Destroy = destroyed-stays old r object (xdg_with object r.owned.shell)
 popup-stays old r object version (popups.Grab seat serial) = grab-stays old r object seat serial (xdg_with object r.owned.shell)
 popup-stays old r object version (popups.Reposition positioner token) = reposition-stays old r object positioner token (xdg_with object r.owned.shell)
@@ -186,7 +183,7 @@ linked-stays old r object (Some l) subsurface.SetSync = refl
 linked-stays old r object (Some l) subsurface.SetDesync = refl
 
 pub subsurface-stays : {A : Type 0} (old : Kept A) (r : Resident) (object version : ℕ) (request : WlSubsurfaceRequest)
-    → StacksSo old r (demand_of nothing_left_out r object version (wl_subsurface_request request)) Stays
+    → StacksSo old r (demand_of r object version (wl_subsurface_request request)) Stays
 subsurface-stays old r object version subsurface.Destroy = linked-stays old r object (link_of_subsurface object r) subsurface.Destroy
 subsurface-stays old r object version (subsurface.SetPosition x y) = linked-stays old r object (link_of_subsurface object r) (subsurface.SetPosition x y)
 subsurface-stays old r object version (subsurface.PlaceAbove sibling) = linked-stays old r object (link_of_subsurface object r) (subsurface.PlaceAbove sibling)
@@ -196,7 +193,7 @@ subsurface-stays old r object version subsurface.SetDesync = linked-stays old r 
 
 -- a request of a wl_subcompositor
 pub subcompositor-stays : {A : Type 0} (old : Kept A) (r : Resident) (object version : ℕ) (request : WlSubcompositorRequest)
-    → StacksSo old r (demand_of nothing_left_out r object version (wl_subcompositor_request request)) Stays
+    → StacksSo old r (demand_of r object version (wl_subcompositor_request request)) Stays
 subcompositor-stays old r object version subcompositor.Destroy = refl
 subcompositor-stays old r object version (subcompositor.GetSubsurface id child parent) =
     if-stays old r (is_too_deep r.owned.surfaces child parent) past_limit _ tt
@@ -205,14 +202,14 @@ subcompositor-stays old r object version (subcompositor.GetSubsurface id child p
 
 -- a request of a wl_pointer
 pub pointer-stays : {A : Type 0} (old : Kept A) (r : Resident) (object version : ℕ) (request : WlPointerRequest)
-    → StacksSo old r (demand_of nothing_left_out r object version (wl_pointer_request request)) Stays
+    → StacksSo old r (demand_of r object version (wl_pointer_request request)) Stays
 pointer-stays old r object version (pointer.SetCursor serial surface x y) =
     if-stays old r (surface == 0) (Ok (Asks Ignore)) _ refl
     (if-stays old r (is_no_cursor (role_of r surface) || is_some (xdg_of surface r.owned.shell)) (refuses object HasAnotherRole) _ tt refl)
 
 -- a request of an xdg_wm_base
 pub base-stays : {A : Type 0} (old : Kept A) (r : Resident) (object version : ℕ) (request : XdgWmBaseRequest)
-    → StacksSo old r (demand_of nothing_left_out r object version (xdg_wm_base_request request)) Stays
+    → StacksSo old r (demand_of r object version (xdg_wm_base_request request)) Stays
 base-stays old r object version base.Destroy = asks-stay old r _
 base-stays old r object version (base.CreatePositioner id) = refl
 base-stays old r object version (base.GetXdgSurface id surface) = asks-stay old r _

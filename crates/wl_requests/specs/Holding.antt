@@ -14,7 +14,6 @@ use Rattle.spec_desktop.specs.Changing.{changed_for}
 use Rattle.spec_desktop.specs.Demand.{Demand}
 use Rattle.spec_desktop.specs.Demanding.{judge_all}
 use Rattle.spec_desktop.specs.Desktop.{Desktop, Resident, unpointed}
-use Rattle.spec_desktop.specs.LeftOut.{nothing_left_out}
 use Rattle.spec_desktop.specs.Step.{with_peer}
 use Rattle.wl_requests.specs.declared.messages.Asked.{Asked}
 use Rattle.wl_requests.specs.declared.residents.Grabbing.{Grabbing}
@@ -43,7 +42,7 @@ HoldsSo (Err refusal) c r d old new = Unit {0}
 
 abbrev pub HoldsFirst : {A : Type 0} → Split → ℕ → Resident → Desktop → Kept A → Kept A → Type 0
 HoldsFirst (Whole object opcode size) c r d old new =
-    HoldsSo (judge_all nothing_left_out r object opcode (take (size - 8) (drop 8 r.peer.rest))) c
+    HoldsSo (judge_all r object opcode (take (size - 8) (drop 8 r.peer.rest))) c
     (with_peer (with_rest (drop size r.peer.rest) r.peer) r) d old new
 HoldsFirst Bad c r d old new = Unit {0}
 HoldsFirst More c r d old new = Unit {0}

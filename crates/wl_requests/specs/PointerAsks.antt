@@ -10,7 +10,6 @@ use Rattle.law_desktop.specs.Owning.{targets_in}
 use Rattle.spec_desktop.specs.Demand.{Demand, GetPointer, Move}
 use Rattle.spec_desktop.specs.Demanding.{judge_all}
 use Rattle.spec_desktop.specs.Desktop.{Resident}
-use Rattle.spec_desktop.specs.LeftOut.{nothing_left_out}
 use Rattle.wl_requests.specs.declared.messages.Asked.{Asked}
 use Rattle.wl_requests.specs.declared.messages.Asked.TheVariants as asks
 use Rattle.wl_requests.specs.declared.messages.Kind.{Kind}
@@ -37,7 +36,7 @@ AsksPointerSo numbers (Err refusal) asked = Unit {0}
 
 abbrev pub AsksPointerFirst : ById ℕ → Split → Resident → PointerAsked → Type 0
 AsksPointerFirst numbers (Whole object opcode size) r asked =
-    AsksPointerSo numbers (judge_all nothing_left_out r object opcode (take (size - 8) (drop 8 r.peer.rest))) asked
+    AsksPointerSo numbers (judge_all r object opcode (take (size - 8) (drop 8 r.peer.rest))) asked
 AsksPointerFirst numbers Bad r asked = Unit {0}
 AsksPointerFirst numbers More r asked = Unit {0}
 

@@ -40,7 +40,6 @@ use Rattle.spec_desktop.specs.Demanding.{effect_of_commit, judge_all}
 use Rattle.spec_desktop.specs.ToplevelRequest.{ToplevelRequest}
 use Rattle.spec_desktop.specs.ToplevelRequest as toplevel
 use Rattle.spec_desktop.specs.Desktop.{Desktop, Resident, unpointed}
-use Rattle.spec_desktop.specs.LeftOut.{nothing_left_out}
 use Rattle.law_desktop.specs.Ordered.{OwnsOrdered}
 use Rattle.law_desktop.specs.Owning.{IsOwned, by_number, targets_in}
 use Rattle.law_desktop.specs.RoleNames.{names_of}
@@ -97,7 +96,7 @@ Does ask old new = (r : Resident) → IsResident old r → (q : Peer) × ActsFor
 abbrev pub MeetsFor : ℕ → Demand → Resident → Desktop → Peer → Type 0
 MeetsFor c demand r d q =
     WantsOr (wants_memory demand)
-    (Queues (replies nothing_left_out c demand r (changed_for c demand r (unpointed d)) (all_windows d) (unpointed d))
+    (Queues (replies c demand r (changed_for c demand r (unpointed d)) (all_windows d) (unpointed d))
     (changed_for c demand r (unpointed d)).peer q)
     r.peer q
 
@@ -119,7 +118,7 @@ AnswersDemand judged old new = (c : ℕ) (r : Resident) (d : Desktop) → IsResi
 abbrev pub MeetsAs : {A : Type 0} → Bool → ℕ → Demand → Resident → Desktop → Kept A → Kept A → Type 0
 MeetsAs true c demand r d old new =
     (q : Peer)
-    × Queues (replies nothing_left_out c demand r (changed_for c demand r (unpointed d)) (all_windows d) (unpointed d))
+    × Queues (replies c demand r (changed_for c demand r (unpointed d)) (all_windows d) (unpointed d))
     (changed_for c demand r (unpointed d)).peer q
     × IsLeft old new (changed_for c demand r (unpointed d)) q
 MeetsAs false c demand r d old new = (wants_memory demand ≡ true) × (q : Peer) × LacksMemory r.peer q
@@ -255,16 +254,16 @@ Stacks judged old stacking = (r : Resident) → IsResident old r → OwnsOrdered
 -- The first message of what has come is taken and answered, and the mapped toplevels are restacked as it asks.
 abbrev pub TakesSo : {A : Type 0} → Split → ℕ → Resident → Desktop → Kept A → Kept A → Stacking → Type 0
 TakesSo (Whole object opcode size) c r d old new stacking =
-    AnswersSo (judge_all nothing_left_out r object opcode (take (size - 8) (drop 8 r.peer.rest))) c
+    AnswersSo (judge_all r object opcode (take (size - 8) (drop 8 r.peer.rest))) c
     (with_peer (with_rest (drop size r.peer.rest) r.peer) r) d old new
-    × StacksSo old r (judge_all nothing_left_out r object opcode (take (size - 8) (drop 8 r.peer.rest))) stacking
+    × StacksSo old r (judge_all r object opcode (take (size - 8) (drop 8 r.peer.rest))) stacking
 TakesSo Bad c r d old new stacking = AnswersSo (Err (display_error InvalidMethod)) c r d old new
 TakesSo More c r d old new stacking = ⊥
 
 -- The same where it is known whether it was done.
 abbrev pub TakesAs : {A : Type 0} → Bool → Split → ℕ → Resident → Desktop → Kept A → Kept A → Type 0
 TakesAs done (Whole object opcode size) c r d old new =
-    AnswersAs done (judge_all nothing_left_out r object opcode (take (size - 8) (drop 8 r.peer.rest))) c
+    AnswersAs done (judge_all r object opcode (take (size - 8) (drop 8 r.peer.rest))) c
     (with_peer (with_rest (drop size r.peer.rest) r.peer) r) d old new
 TakesAs done Bad c r d old new = AnswersAs done (Err (display_error InvalidMethod)) c r d old new
 TakesAs done More c r d old new = ⊥

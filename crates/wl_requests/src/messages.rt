@@ -13,7 +13,6 @@ ghost use Rattle.wl_requests.specs.Messages.{IsAsked, IsKind, IsTouchOf, IsTouch
 ghost use Rattle.wl_requests.specs.PointerAsks.{pointer_asked_by, pointer_in};
 ghost use Rattle.wl_requests.specs.Touching.{IsTouched, Touch};
 ghost use Rattle.wl_requests.specs.Residents.{AnswersGiven, AnswersPlacedAs, Leaves, NewIsFree, ObjectsFit, Stacks, TakesMessage, TakesMessageAs};
-ghost use Rattle.spec_desktop.specs.LeftOut.{nothing_left_out};
 ghost use Rattle.spec_desktop.specs.Demanding.{demand_of};
 
 use crate::pointer_asked::PointerAsked;
@@ -127,12 +126,12 @@ impl<A: Allocator + Copy> Resident<A> {
         given: Given,
     ) -> Outcome<A>
         ensures answers { (m : Message) → IsKind kind m → entry_of self.old.client.objects object ≡ Some (record { interface = m.interface; version = version; target = target })
-            → NewIsFree self.old m → ObjectsFit self.old m → AnswersGiven given.placing given.grabbing kind object (λ r. demand_of nothing_left_out r object version m) self.old self.new }
+            → NewIsFree self.old m → ObjectsFit self.old m → AnswersGiven given.placing given.grabbing kind object (λ r. demand_of r object version m) self.old self.new }
         ensures stacks { (m : Message) → IsKind kind m → entry_of self.old.client.objects object ≡ Some (record { interface = m.interface; version = version; target = target })
-            → Stacks (λ r. demand_of nothing_left_out r object version m) self.old result.stacking }
+            → Stacks (λ r. demand_of r object version m) self.old result.stacking }
         ensures decides { (touch : Touch) → IsTouchOf kind object target self.old touch
             → (m : Message) → IsKind kind m → entry_of self.old.client.objects object ≡ Some (record { interface = m.interface; version = version; target = target })
-            → AnswersPlacedAs (is_some result.applied) given.placing kind object (λ r. demand_of nothing_left_out r object version m) self.old self.new }
+            → AnswersPlacedAs (is_some result.applied) given.placing kind object (λ r. demand_of r object version m) self.old self.new }
         ensures touched { (touch : Touch) → IsTouchOf kind object target self.old touch
             → IsTouched touch self.old.owned.surfaces self.new.owned.surfaces result.applied }
         ensures nothing { ((touch : Touch) → IsTouchOf kind object target self.old touch → ⊥) → (numbers : ById ℕ) (subsurfaces : List Subsurface) → AreOfSurfaces self.old.subsurfaces numbers subsurfaces → result.applied ≡ None }
@@ -140,7 +139,7 @@ impl<A: Allocator + Copy> Resident<A> {
         ensures room { is_some result.applied ≡ true → given.has_room ≡ true }
         ensures holds { (touch : Touch) → IsTouchOf kind object target self.old touch
             → (m : Message) → IsKind kind m → entry_of self.old.client.objects object ≡ Some (record { interface = m.interface; version = version; target = target })
-            → HoldsPlaced (is_some result.applied) given.placing kind object (λ r. demand_of nothing_left_out r object version m) self.old self.new }
+            → HoldsPlaced (is_some result.applied) given.placing kind object (λ r. demand_of r object version m) self.old self.new }
         ensures seat { (id : ℕ) → pointer_asked_by target kind ≡ PointerAsked.NewPointer id → given.has_room ≡ false → is_some self.new.client.ended ≡ true }
     {
         match kind {

@@ -21,7 +21,6 @@ ghost use Rattle.law_desktop.specs.OwnedPopups.{IsAtParent};
 ghost use Rattle.law_desktop.specs.RoleNames.{names_of};
 ghost use Rattle.law_desktop.specs.Subsurfaces.{AreOfSurfaces};
 ghost use Rattle.spec_desktop.specs.Framing.{AreFramed};
-ghost use Rattle.spec_desktop.specs.LeftOut.{nothing_left_out};
 ghost use Rattle.wl_requests.specs.Freed.{is_freed_in};
 ghost use Rattle.wl_requests.specs.Holding.{HoldsAs, HoldsBy, HoldsPlaced};
 ghost use Rattle.wl_requests.specs.Messages.{IsTouchOf, asks_itself};
@@ -386,7 +385,7 @@ impl<A: Allocator + Copy> Resident<A> {
     )
         requires { asks_itself request.now ≡ true }
         ensures answers { IsSurface self.old object surface → NewIsFree self.old (wl_surface_request request.now)
-            → AnswersDemand (λ r. demand_of nothing_left_out r object version (wl_surface_request request.now)) self.old self.new }
+            → AnswersDemand (λ r. demand_of r object version (wl_surface_request request.now)) self.old self.new }
         ensures rest { Leaves self.old self.new }
     {
         match *request {
@@ -439,18 +438,18 @@ impl<A: Allocator + Copy> Resident<A> {
         given: Given,
     ) -> Outcome<A>
         ensures answers { IsSurface self.old object surface → NewIsFree self.old (wl_surface_request request.now)
-            → AnswersPlaced given.placing (Kind.Surface request.now) object (λ r. demand_of nothing_left_out r object version (wl_surface_request request.now)) self.old self.new }
+            → AnswersPlaced given.placing (Kind.Surface request.now) object (λ r. demand_of r object version (wl_surface_request request.now)) self.old self.new }
         ensures stacks { IsSurface self.old object surface
-            → Stacks (λ r. demand_of nothing_left_out r object version (wl_surface_request request.now)) self.old result.stacking }
+            → Stacks (λ r. demand_of r object version (wl_surface_request request.now)) self.old result.stacking }
         ensures decides { (touch : Touch) → IsTouchOf (Kind.Surface request.now) object surface self.old touch → IsSurface self.old object surface
-            → AnswersPlacedAs (is_some result.applied) given.placing (Kind.Surface request.now) object (λ r. demand_of nothing_left_out r object version (wl_surface_request request.now)) self.old self.new }
+            → AnswersPlacedAs (is_some result.applied) given.placing (Kind.Surface request.now) object (λ r. demand_of r object version (wl_surface_request request.now)) self.old self.new }
         ensures touched { (touch : Touch) → IsTouchOf (Kind.Surface request.now) object surface self.old touch
             → IsTouched touch self.old.owned.surfaces self.new.owned.surfaces result.applied }
         ensures nothing { ((touch : Touch) → IsTouchOf (Kind.Surface request.now) object surface self.old touch → ⊥) → result.applied ≡ None }
         ensures rest { Leaves self.old self.new }
         ensures room { is_some result.applied ≡ true → given.has_room ≡ true }
         ensures holds { (touch : Touch) → IsTouchOf (Kind.Surface request.now) object surface self.old touch → IsSurface self.old object surface
-            → HoldsPlaced (is_some result.applied) given.placing (Kind.Surface request.now) object (λ r. demand_of nothing_left_out r object version (wl_surface_request request.now)) self.old self.new }
+            → HoldsPlaced (is_some result.applied) given.placing (Kind.Surface request.now) object (λ r. demand_of r object version (wl_surface_request request.now)) self.old self.new }
     {
         match *request {
             WlSurfaceRequest::Commit => self.commit(object, surface, given),

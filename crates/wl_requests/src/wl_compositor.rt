@@ -5,7 +5,6 @@ ghost use Rattle.wl_proto.specs.Messages.{wl_compositor_request};
 ghost use Rattle.spec_desktop.specs.declared.actions.Action.TheVariants.{CreateRegion};
 ghost use Rattle.spec_desktop.specs.Ask.{Own};
 ghost use Rattle.spec_desktop.specs.Demand.{Asks};
-ghost use Rattle.spec_desktop.specs.LeftOut.{nothing_left_out};
 ghost use Rattle.spec_desktop.specs.Demanding.{demand_of, demands};
 ghost use Rattle.wl_requests.specs.Residents.{AnswersDemand, IsFree, Leaves, NewIsFree};
 ghost use Rattle.spec_desktop.specs.WlSurface.{surface_created};
@@ -41,7 +40,7 @@ impl<A: Allocator + Copy> Resident<A> {
             }
             Err(error) => {
                 if is_too_many(error) {
-                    self.refuse_unserved();
+                    self.refuse_past_limit();
                 } else {
                     self.client.count();
                     self.client.lack_memory();
@@ -62,7 +61,7 @@ impl<A: Allocator + Copy> Resident<A> {
     /// A request of a wl_compositor whose new id is free.
     pub(crate) fn wl_compositor(&mut self, version: u32, request: &WlCompositorRequest)
         ensures answers { (object : ℕ) → NewIsFree self.old (wl_compositor_request request.now)
-            → AnswersDemand (λ r. demand_of nothing_left_out r object version (wl_compositor_request request.now)) self.old self.new }
+            → AnswersDemand (λ r. demand_of r object version (wl_compositor_request request.now)) self.old self.new }
         ensures rest { Leaves self.old self.new }
     {
         match *request {

@@ -3,7 +3,6 @@
 ghost use Rattle.std.specs.Prelude.{ℕ};
 ghost use Rattle.wl_proto.specs.Messages.{wl_pointer_request};
 ghost use Rattle.wl_requests.specs.Residents.{AnswersDemand, IsSurface, Leaves, ObjectsFit};
-ghost use Rattle.spec_desktop.specs.LeftOut.{nothing_left_out};
 ghost use Rattle.spec_desktop.specs.Demanding.{demand_of};
 ghost use Rattle.spec_desktop.specs.WlPointer.{cursor_set};
 
@@ -33,7 +32,7 @@ impl<A: Allocator + Copy> Resident<A> {
     /// A request of a wl_pointer whose wl_surface is there, if it names one. Without one it takes the cursor away, which has no effect.
     pub(crate) fn wl_pointer(&mut self, object: u32, request: &WlPointerRequest)
         ensures answers { (version : ℕ) → ObjectsFit self.old (wl_pointer_request request.now)
-            → AnswersDemand (λ r. demand_of nothing_left_out r object version (wl_pointer_request request.now)) self.old self.new }
+            → AnswersDemand (λ r. demand_of r object version (wl_pointer_request request.now)) self.old self.new }
         ensures rest { Leaves self.old self.new }
     {
         let WlPointerRequest::SetCursor { surface, .. } = *request;

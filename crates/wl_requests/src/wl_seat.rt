@@ -4,7 +4,6 @@ ghost use Rattle.std.specs.Prelude.{ℕ, ◌≡◌, Ok, false, is_some, true};
 ghost use Rattle.wl_proto.specs.Messages.{wl_seat_request};
 ghost use Rattle.wl_requests.specs.Residents.{AnswersDemand, IsFree, Leaves, NewIsFree};
 ghost use Rattle.spec_desktop.specs.Demand.{GetPointer};
-ghost use Rattle.spec_desktop.specs.LeftOut.{nothing_left_out};
 ghost use Rattle.spec_desktop.specs.Demanding.{demand_of};
 
 use crate::residents::Resident;
@@ -42,7 +41,7 @@ impl<A: Allocator + Copy> Resident<A> {
         has_room: bool,
     )
         ensures answers { NewIsFree self.old (wl_seat_request request.now)
-            → AnswersDemand (λ r. demand_of nothing_left_out r object version (wl_seat_request request.now)) self.old self.new }
+            → AnswersDemand (λ r. demand_of r object version (wl_seat_request request.now)) self.old self.new }
         ensures rest { Leaves self.old self.new }
         ensures room { (id : ℕ) → request.now ≡ WlSeatRequest.GetPointer id → has_room ≡ false → is_some self.new.client.ended ≡ true }
     {

@@ -8,7 +8,6 @@ ghost use Rattle.spec_desktop.specs.Demand.{Asks};
 ghost use Rattle.spec_desktop.specs.Demanding.{demand_of};
 ghost use Rattle.wl_requests.specs.Linking.{IsLinkMade, LinksAsJudged, link_refused};
 ghost use Rattle.wl_requests.specs.Residents.{AnswersDemand, IsFree, IsSubcompositor, IsSurface, Leaves, NewIsFree, ObjectsFit};
-ghost use Rattle.spec_desktop.specs.LeftOut.{nothing_left_out};
 
 use crate::residents::Resident;
 use std::alloc::Allocator;
@@ -69,7 +68,7 @@ impl<A: Allocator + Copy> Resident<A> {
         parent: SurfaceNo,
     )
         ensures answers { (surface above : ℕ) → IsFree self.old id → IsSurface self.old surface child → IsSurface self.old above parent
-            → AnswersDemand (λ r. demand_of nothing_left_out r object version (wl_subcompositor_request (GetSubsurface id surface above))) self.old self.new }
+            → AnswersDemand (λ r. demand_of r object version (wl_subcompositor_request (GetSubsurface id surface above))) self.old self.new }
         ensures rest { Leaves self.old self.new }
     {
         match self.link(id, child, parent) {
@@ -100,7 +99,7 @@ impl<A: Allocator + Copy> Resident<A> {
         request: &WlSubcompositorRequest,
     )
         ensures answers { IsSubcompositor self.old object → NewIsFree self.old (wl_subcompositor_request request.now) → ObjectsFit self.old (wl_subcompositor_request request.now)
-            → AnswersDemand (λ r. demand_of nothing_left_out r object version (wl_subcompositor_request request.now)) self.old self.new }
+            → AnswersDemand (λ r. demand_of r object version (wl_subcompositor_request request.now)) self.old self.new }
         ensures rest { Leaves self.old self.new }
     {
         match *request {

@@ -14,7 +14,6 @@ ghost use Rattle.wl_requests.specs.Holding.{HoldsAs};
 ghost use Rattle.wl_requests.specs.Linking.{IsChildOf, IsOnlyChild, place_asked};
 ghost use Rattle.wl_requests.specs.Residents.{AnswersDemand, AnswersDemandAs, IsSubsurface, IsSurface, Leaves, ObjectsFit};
 ghost use Rattle.wl_requests.specs.Touching.{IsTouched, Parts, Releases, Touch};
-ghost use Rattle.spec_desktop.specs.LeftOut.{nothing_left_out};
 ghost use Rattle.spec_desktop.specs.WlSubsurface.{subsurface_demand};
 
 use crate::messages::Kind;
@@ -177,9 +176,9 @@ impl<A: Allocator + Copy> Resident<A> {
         has_room: bool,
     ) -> Outcome<A>
         ensures answers { (version : ℕ) → IsSubsurface self.old object → ObjectsFit self.old (wl_subsurface_request request.now)
-            → AnswersDemand (λ r. demand_of nothing_left_out r object version (wl_subsurface_request request.now)) self.old self.new }
+            → AnswersDemand (λ r. demand_of r object version (wl_subsurface_request request.now)) self.old self.new }
         ensures decides { (version target : ℕ) (touch : Touch) → IsTouchOf (Kind.Subsurface request.now) object target self.old touch → IsSubsurface self.old object
-            → AnswersDemandAs (is_some result.applied) (λ r. demand_of nothing_left_out r object version (wl_subsurface_request request.now)) self.old self.new }
+            → AnswersDemandAs (is_some result.applied) (λ r. demand_of r object version (wl_subsurface_request request.now)) self.old self.new }
         ensures touched { (target : ℕ) (touch : Touch) → IsTouchOf (Kind.Subsurface request.now) object target self.old touch
             → IsTouched touch self.old.owned.surfaces self.new.owned.surfaces result.applied }
         ensures nothing { (target : ℕ) → ((touch : Touch) → IsTouchOf (Kind.Subsurface request.now) object target self.old touch → ⊥) → (numbers : ById ℕ) (subsurfaces : List Subsurface) → AreOfSurfaces self.old.subsurfaces numbers subsurfaces → result.applied ≡ None }
@@ -187,7 +186,7 @@ impl<A: Allocator + Copy> Resident<A> {
         ensures rest { Leaves self.old self.new }
         ensures room { is_some result.applied ≡ true → has_room ≡ true }
         ensures holds { (version target : ℕ) (touch : Touch) → IsTouchOf (Kind.Subsurface request.now) object target self.old touch → IsSubsurface self.old object
-            → HoldsAs (is_some result.applied) (λ r. demand_of nothing_left_out r object version (wl_subsurface_request request.now)) self.old self.new }
+            → HoldsAs (is_some result.applied) (λ r. demand_of r object version (wl_subsurface_request request.now)) self.old self.new }
     {
         let mut applied = None;
         match *request {

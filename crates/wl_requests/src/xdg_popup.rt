@@ -6,7 +6,6 @@ ghost use Rattle.wl_proto.specs.declared.xdg_popup.XdgPopupRequest.TheVariants.{
 ghost use Rattle.wl_shell.specs.Shell.{xdg_with};
 ghost use Rattle.spec_desktop.specs.Changing.{is_serial};
 ghost use Rattle.spec_desktop.specs.Demanding.{demand_of};
-ghost use Rattle.spec_desktop.specs.LeftOut.{nothing_left_out};
 ghost use Rattle.spec_desktop.specs.XdgPopup.{popup_asked};
 ghost use Rattle.wl_requests.specs.Holding.{HoldsAs};
 ghost use Rattle.wl_requests.specs.Messages.{IsTouchOf};
@@ -143,16 +142,16 @@ impl<A: Allocator + Copy> Resident<A> {
         request: &XdgPopupRequest,
         given: Given,
     ) -> Outcome<A>
-        ensures answers { (version : ℕ) → IsPopup self.old object surface → AnswersGiven given.placing given.grabbing (Kind.Popup request.now) object (λ r. demand_of nothing_left_out r object version (xdg_popup_request request.now)) self.old self.new }
+        ensures answers { (version : ℕ) → IsPopup self.old object surface → AnswersGiven given.placing given.grabbing (Kind.Popup request.now) object (λ r. demand_of r object version (xdg_popup_request request.now)) self.old self.new }
         ensures decides { (version : ℕ) (touch : Touch) → IsTouchOf (Kind.Popup request.now) object surface self.old touch → IsPopup self.old object surface
-            → AnswersDemandAs (is_some result.applied) (λ r. demand_of nothing_left_out r object version (xdg_popup_request request.now)) self.old self.new }
+            → AnswersDemandAs (is_some result.applied) (λ r. demand_of r object version (xdg_popup_request request.now)) self.old self.new }
         ensures touched { (touch : Touch) → IsTouchOf (Kind.Popup request.now) object surface self.old touch → IsTouched touch self.old.owned.surfaces self.new.owned.surfaces result.applied }
         ensures nothing { ((touch : Touch) → IsTouchOf (Kind.Popup request.now) object surface self.old touch → ⊥) → result.applied ≡ None }
         ensures stays { result.stacking ≡ Stacking.Stays }
         ensures rest { Leaves self.old self.new }
         ensures room { is_some result.applied ≡ true → given.has_room ≡ true }
         ensures holds { (version : ℕ) (touch : Touch) → IsTouchOf (Kind.Popup request.now) object surface self.old touch → IsPopup self.old object surface
-            → HoldsAs (is_some result.applied) (λ r. demand_of nothing_left_out r object version (xdg_popup_request request.now)) self.old self.new }
+            → HoldsAs (is_some result.applied) (λ r. demand_of r object version (xdg_popup_request request.now)) self.old self.new }
     {
         match *request {
             XdgPopupRequest::Destroy => Outcome {

@@ -9,7 +9,6 @@ ghost use Rattle.wl_proto.specs.declared.xdg_surface.XdgSurfaceRequest.TheVarian
 ghost use Rattle.wl_shell.specs.Kept.{kept_of};
 ghost use Rattle.law_desktop.specs.Owning.{kept_base, kept_id, shell_refusal, targets_in};
 ghost use Rattle.wl_requests.specs.Residents.{AnswersDemand, IsFree, IsXdgSurface, Leaves, NewIsFree, ObjectsFit};
-ghost use Rattle.spec_desktop.specs.LeftOut.{nothing_left_out};
 ghost use Rattle.spec_desktop.specs.Demanding.{demand_of, xdg_demand};
 ghost use Rattle.spec_desktop.specs.XdgPopup.{is_no_popup, positioner_of};
 ghost use Rattle.spec_desktop.specs.XdgShell.{is_no_toplevel};
@@ -127,7 +126,7 @@ impl<A: Allocator + Copy> Resident<A> {
     /// xdg_surface.get_toplevel: a new toplevel under a free id. The surface has the role of one from then on.
     fn get_toplevel(&mut self, object: u32, version: u32, surface: SurfaceNo, id: u32)
         ensures answers { IsXdgSurface self.old object surface → IsFree self.old id
-            → AnswersDemand (λ r. demand_of nothing_left_out r object version (xdg_surface_request (GetToplevel id))) self.old self.new }
+            → AnswersDemand (λ r. demand_of r object version (xdg_surface_request (GetToplevel id))) self.old self.new }
         ensures rest { Leaves self.old self.new }
     {
         let has_other_role = is_other_role(self.owned.surfaces.states.role(surface));
@@ -207,7 +206,7 @@ impl<A: Allocator + Copy> Resident<A> {
     fn get_popup(&mut self, object: u32, version: u32, surface: SurfaceNo, asked: &PopupAsked)
         ensures answers { IsXdgSurface self.old object surface → IsFree self.old asked.now.id
             → ObjectsFit self.old (xdg_surface_request (GetPopup asked.now.id asked.now.parent asked.now.positioner))
-            → AnswersDemand (λ r. demand_of nothing_left_out r object version (xdg_surface_request (GetPopup asked.now.id asked.now.parent asked.now.positioner))) self.old self.new }
+            → AnswersDemand (λ r. demand_of r object version (xdg_surface_request (GetPopup asked.now.id asked.now.parent asked.now.positioner))) self.old self.new }
         ensures rest { Leaves self.old self.new }
     {
         let has_other_role = is_not_of_popup(self.owned.surfaces.states.role(surface));
@@ -250,7 +249,7 @@ impl<A: Allocator + Copy> Resident<A> {
         request: &XdgSurfaceRequest,
     )
         ensures answers { IsXdgSurface self.old object surface → NewIsFree self.old (xdg_surface_request request.now) → ObjectsFit self.old (xdg_surface_request request.now)
-            → AnswersDemand (λ r. demand_of nothing_left_out r object version (xdg_surface_request request.now)) self.old self.new }
+            → AnswersDemand (λ r. demand_of r object version (xdg_surface_request request.now)) self.old self.new }
         ensures rest { Leaves self.old self.new }
     {
         match *request {

@@ -5,7 +5,6 @@ ghost use Rattle.wl_proto.specs.declared.interface.Interface.TheVariants.{XdgTop
 ghost use Rattle.wl_proto.specs.Messages.{Message, xdg_toplevel_request};
 ghost use Rattle.wl_shell.specs.Shell.{xdg_with};
 ghost use Rattle.spec_desktop.specs.Demanding.{demand_of, demands, toplevel_destroyed};
-ghost use Rattle.spec_desktop.specs.LeftOut.{nothing_left_out};
 ghost use Rattle.wl_requests.specs.Residents.{AnswersDemand, asked_by, IsToplevel, Leaves, Stacks};
 ghost use Rattle.spec_desktop.specs.Requests.{toplevel_request};
 ghost use Rattle.spec_desktop.specs.XdgShell.{state_asked};
@@ -90,9 +89,9 @@ impl<A: Allocator + Copy> Resident<A> {
         asked: ToplevelAsked,
     ) -> Stacking
         ensures answers { IsToplevel self.old object surface → (version : ℕ) (m : Message) → m.interface ≡ XdgToplevel → asked ≡ asked_by (toplevel_request m.opcode m.fields)
-            → AnswersDemand (λ r. demand_of nothing_left_out r object version m) self.old self.new }
+            → AnswersDemand (λ r. demand_of r object version m) self.old self.new }
         ensures stacks { IsToplevel self.old object surface → (version : ℕ) (m : Message) → m.interface ≡ XdgToplevel → asked ≡ asked_by (toplevel_request m.opcode m.fields)
-            → Stacks (λ r. demand_of nothing_left_out r object version m) self.old result }
+            → Stacks (λ r. demand_of r object version m) self.old result }
         ensures rest { Leaves self.old self.new }
     {
         match asked {

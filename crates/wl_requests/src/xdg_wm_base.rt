@@ -8,7 +8,6 @@ ghost use Rattle.spec_desktop.specs.Ask.{EndObject, Ignore, Own};
 ghost use Rattle.spec_desktop.specs.Demand.{Asks};
 ghost use Rattle.law_desktop.specs.Owning.{targets_in};
 ghost use Rattle.wl_requests.specs.Residents.{AnswersDemand, Does, GoesAlone, IsBase, IsFree, IsSurface, Leaves, NewIsFree, ObjectsFit};
-ghost use Rattle.spec_desktop.specs.LeftOut.{nothing_left_out};
 ghost use Rattle.spec_desktop.specs.Demanding.{demand_of, demands};
 ghost use Rattle.spec_desktop.specs.WlSubsurface.{past_limit};
 ghost use Rattle.spec_desktop.specs.XdgShell.{base_destroyed, is_foreign, xdg_surface_made};
@@ -48,8 +47,8 @@ impl<A: Allocator + Copy> Resident<A> {
         self.client.count();
     }
 
-    /// A request that isn't served is refused as a limit would be.
-    pub(crate) fn refuse_unserved(&mut self)
+    /// A request past a limit is refused: wl_display.error, implementation.
+    pub(crate) fn refuse_past_limit(&mut self)
         ensures answers { AnswersDemand (λ r. past_limit) self.old self.new }
         ensures rest { Leaves self.old self.new }
     {
@@ -137,7 +136,7 @@ impl<A: Allocator + Copy> Resident<A> {
     /// A request of an xdg_wm_base whose new id is free and whose wl_surface is there.
     pub(crate) fn xdg_wm_base(&mut self, object: u32, version: u32, request: &XdgWmBaseRequest)
         ensures answers { IsBase self.old object → NewIsFree self.old (xdg_wm_base_request request.now) → ObjectsFit self.old (xdg_wm_base_request request.now)
-            → AnswersDemand (λ r. demand_of nothing_left_out r object version (xdg_wm_base_request request.now)) self.old self.new }
+            → AnswersDemand (λ r. demand_of r object version (xdg_wm_base_request request.now)) self.old self.new }
         ensures rest { Leaves self.old self.new }
     {
         match *request {

@@ -65,7 +65,7 @@ module _ (numbers : ℕ → ById ℕ) (P : Window → Type 0) (default : Stacked
       let later = at-place ss ws are.1 each.1 k (omega arith) in
       record { window = later.window; stacked = later.stacked; has = later.has; upto = ap (λ (vs : List Window). w ∷ vs) later.upto }
 
-as-many : (numbers : ℕ → ById ℕ) (ss : List Stacked) (ws : List Window) → AreStacked numbers ss ws → length ss ≡ length ws
+pub as-many : (numbers : ℕ → ById ℕ) (ss : List Stacked) (ws : List Window) → AreStacked numbers ss ws → length ss ≡ length ws
 as-many numbers [] [] are = refl
 as-many numbers [] (w ∷ ws) are = absurd are
 as-many numbers (s ∷ ss) [] are = absurd are

@@ -2,6 +2,7 @@ pub mod Geometry
 pub mod Held
 pub mod Hits
 pub mod Kept
+pub mod Listed
 pub mod Marked
 pub mod MarkedTrees
 pub mod Moved

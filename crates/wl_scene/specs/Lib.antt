@@ -11,3 +11,4 @@ pub mod StackedAgreement
 pub mod StackedLaws
 pub mod Told
 pub mod TreeWindows
+pub mod Window

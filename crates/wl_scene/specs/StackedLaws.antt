@@ -1,11 +1,10 @@
 -- What is kept of the windows of the output goes on standing for those of the desktop where the windows stacked with one toplevel change, come
 -- or go.
-use Rattle.std.specs.Prelude.{ℕ, ◌≡◌, ◌==◌, Bool, true, false, if◌then◌else◌, not, List, [], ◌∷◌, ◌++◌, Some, filter, map}
+use Rattle.std.specs.Prelude.{ℕ, ◌≡◌, ◌==◌, true, false, not, List, ◌++◌, Some, filter, map}
 use Rattle.std.specs.List.{All, list_all, list_any}
 use Rattle.spec_desktop.specs.Objects.{ById}
 use Rattle.spec_desktop.specs.Windows.{Window}
 use Rattle.wl_scene.specs.declared.stacked.Stacked.{Stacked}
-use Rattle.spec_desktop.specs.Stacking.{Owned, Standing, is_of as is_standing, raised as raised_standing, windows_on}
 use Rattle.wl_scene.specs.Stacked.{is_of, raised, replaced, stacked, run_of, without_client, without_run}
 use Rattle.wl_scene.specs.StackedAgreement.{AreNumberedBy, AreNumberedOnce, AreStacked, has_toplevel, told_by}
 
@@ -107,17 +106,3 @@ StackedRunRaised =
     → numbers client toplevel ≡ Some k → AreNumberedOnce (numbers client)
     → AreStacked numbers (raised client k all)
     (filter (λ w. not (has_toplevel client toplevel w)) ws ++ filter (λ w. has_toplevel client toplevel w) ws)
-
--- no two of these toplevels are of this surface
-abbrev pub stands_once : ℕ → ℕ → List Standing → Bool
-stands_once client surface [] = true
-stands_once client surface (s ∷ ss) =
-    if is_standing client surface s then not (list_any (is_standing client surface) ss) else stands_once client surface ss
-
--- Where a toplevel comes to the top of the others, and its windows on top of theirs, what is kept stands for the windows again.
-abbrev pub StackedRaised : Type 0
-StackedRaised =
-    (numbers : ℕ → ById ℕ) (all : List Stacked) (owned : ℕ → Owned) (standing : List Standing) (client surface k : ℕ)
-    → AreStacked numbers all (windows_on owned standing) → stands_once client surface standing ≡ true
-    → numbers client surface ≡ Some k → AreNumberedOnce (numbers client)
-    → AreStacked numbers (raised client k all) (windows_on owned (raised_standing client surface standing))

@@ -23,6 +23,7 @@ mod stacked_windows;
 mod stacking;
 mod tree_window;
 mod tree_windows;
+mod window;
 
 pub use actions::{Action, Actions, Target};
 pub use coordinates::fixed;
@@ -41,13 +42,13 @@ pub use stacked::Stacked;
 pub use stacked_trees::add_trees;
 pub use stacked_windows::StackedWindows;
 pub use stacking::{
-    both_are_stacked, first_are_stacked, kept_run_is_as_long, moved_trees_are_as_long,
-    run_is_stacked, run_is_there, runs_are_moved, stacked_are_told, stacked_client_gone,
-    stacked_moved, stacked_pushed, stacked_raised, stacked_removed, stacked_renumbered,
+    both_are_stacked, first_are_stacked, moved_trees_are_as_long, run_is_stacked, run_is_there,
+    stacked_are_told, stacked_client_gone, stacked_pushed, stacked_removed, stacked_renumbered,
     stacked_replaced, stacked_run_gone, stacked_run_raised, trees_are_moved,
 };
 pub use tree_window::TreeWindow;
 pub use tree_windows::add_windows;
+pub use window::Window;
 
 /// Where other windows of a toplevel take the place of those that stand together, what is below and above them stays.
 pub fn replaces_a_run()

@@ -1,7 +1,7 @@
 //! How what is kept of the windows of the output goes on standing for those of the desktop.
 
-ghost use Rattle.wl_scene.specs.Moved.{KeptRunIsAsLong, MovedTreesAreAsLong, RunsAreMoved, StackedMoved, TreesAreMoved};
-ghost use Rattle.wl_scene.specs.StackedLaws.{BothAreStacked, FirstAreStacked, StackedAreTold, StackedClientGone, StackedPushed, StackedRaised, StackedRemoved, StackedRenumbered, StackedReplaced, StackedRunGone, StackedRunRaised, RunIsStacked, RunIsThere};
+ghost use Rattle.wl_scene.specs.Moved.{MovedTreesAreAsLong, TreesAreMoved};
+ghost use Rattle.wl_scene.specs.StackedLaws.{BothAreStacked, FirstAreStacked, StackedAreTold, StackedClientGone, StackedPushed, StackedRemoved, StackedRenumbered, StackedReplaced, StackedRunGone, StackedRunRaised, RunIsStacked, RunIsThere};
 
 /// Of what stands for windows one above another, the first stand for the first and the others for the others.
 pub fn first_are_stacked()
@@ -63,11 +63,6 @@ pub fn stacked_run_raised()
     ensures { StackedRunRaised }
 {}
 
-/// It does where a toplevel comes to the top of the others, and its windows on top of theirs.
-pub fn stacked_raised()
-    ensures { StackedRaised }
-{}
-
 /// Wherever a tree is placed, it has the same windows but for where they stand.
 pub fn trees_are_moved()
     ensures { TreesAreMoved }
@@ -76,19 +71,4 @@ pub fn trees_are_moved()
 /// It has as many of them.
 pub fn moved_trees_are_as_long()
     ensures { MovedTreesAreAsLong }
-{}
-
-/// Wherever a toplevel is placed, the same windows are stacked with it but for where they stand.
-pub fn runs_are_moved()
-    ensures { RunsAreMoved }
-{}
-
-/// As many windows are kept of a toplevel that stands as are stacked with it, wherever it is placed.
-pub fn kept_run_is_as_long()
-    ensures { KeptRunIsAsLong }
-{}
-
-/// It goes on standing for the windows where a toplevel comes to another place, and its windows with it.
-pub fn stacked_moved()
-    ensures { StackedMoved }
 {}

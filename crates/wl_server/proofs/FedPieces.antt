@@ -6,7 +6,7 @@ use Rattle.spec_desktop.specs.declared.answers.Done.{Done}
 use Rattle.wl_session.specs.Course.{TakesCourse}
 use Rattle.wl_session.specs.View.{SessionView}
 use Rattle.wl_server.specs.Acting.{Stretch, Takes}
-use Rattle.wl_server.specs.Phases.{Gets, GetsAll, GetsNone, Link, ReadsClient, ReadsOnce}
+use Rattle.wl_server.specs.Phases.{Gets, GetsAll, GetsNone, Link, ReadsOnce, ReadsUntil}
 use Rattle.wl_server.specs.Ways.{Ways}
 use Rattle.wl_server.proofs.Taking.{Takes-none, Takes-one, Takes-then, Takes-weaker}
 
@@ -46,11 +46,11 @@ fed-more w client n from mid to old between new fed once =
     let count : length pieces ≡ n + 1 = length-append p.0 (q.0 ∷ []) ∙ ap (λ (k : ℕ). k + 1) p.2 in
     (pieces, GetsAll.more q.0 p.1 q.1, count, acts))
 
-pub fed-last : {H C : Type 0} (w : Ways H C) (client n : ℕ) (from mid to : Link H C) (old between new : SessionView) → n < 16
+pub fed-last : {H C : Type 0} (IsOver : ℕ → Type 0) (w : Ways H C) (client n : ℕ) (from mid to : Link H C) (old between new : SessionView) → n < 16
     → Takes (FedSoFar w client n (from.0, record from.1 { has_sent = false }) mid) old between → Takes (ReadsOnce w client false mid to) between new
-    → Takes (ReadsClient w client from to) old new
-fed-last w client n from mid to old between new few fed once =
-    Takes-then (FedSoFar w client n (from.0, record from.1 { has_sent = false }) mid) (ReadsOnce w client false mid to) (ReadsClient w client from to) old between new fed once
+    → Takes (ReadsUntil IsOver w client from to) old new
+fed-last IsOver w client n from mid to old between new few fed once =
+    Takes-then (FedSoFar w client n (from.0, record from.1 { has_sent = false }) mid) (ReadsOnce w client false mid to) (ReadsUntil IsOver w client from to) old between new fed once
     (λ start d e a b es fs ad ae leads goes p q. record {
       pieces = p.0;
       last = b;
@@ -60,15 +60,15 @@ fed-last w client n from mid to old between new few fed once =
       acts_are = ap (λ (front : List Act). front ++ b) p.3;
     })
 
-pub fed-all : {H C : Type 0} (w : Ways H C) (client n : ℕ) (from to : Link H C) (old new : SessionView) → n ≡ 16
-    → Takes (FedSoFar w client n (from.0, record from.1 { has_sent = false }) to) old new → Takes (ReadsClient w client from to) old new
-fed-all w client n from to old new all fed =
-    Takes-weaker (FedSoFar w client n (from.0, record from.1 { has_sent = false }) to) (ReadsClient w client from to) old new fed
+pub fed-all : {H C : Type 0} (IsOver : ℕ → Type 0) (w : Ways H C) (client n : ℕ) (from to : Link H C) (old new : SessionView) → IsOver n
+    → Takes (FedSoFar w client n (from.0, record from.1 { has_sent = false }) to) old new → Takes (ReadsUntil IsOver w client from to) old new
+fed-all IsOver w client n from to old new all fed =
+    Takes-weaker (FedSoFar w client n (from.0, record from.1 { has_sent = false }) to) (ReadsUntil IsOver w client from to) old new fed
     (λ d e a es ad ae runs p. record {
       pieces = p.0;
       last = [];
       mid = to;
       gets = p.1;
-      stops = inl (p.2 ∙ all, refl, refl);
+      stops = inl (subst IsOver (sym p.2) all, refl, refl);
       acts_are = p.3 ∙ sym (append-nil (map (Feed client) p.0));
     })

@@ -4,7 +4,6 @@ use Rattle.std.specs.Prelude.{⊤}
 use Rattle.std.specs.Result.{OnOk}
 use Rattle.spec_desktop.specs.Act.{Act}
 use Rattle.spec_desktop.specs.Desktop.{Desktop}
-use Rattle.spec_desktop.specs.LeftOut.{nothing_left_out}
 use Rattle.wl_session.specs.Agreeing.{Agrees}
 use Rattle.wl_session.specs.Course.{moment}
 use Rattle.wl_session.specs.Events.{AreApart, AreEvents, Event, Moment}
@@ -18,8 +17,8 @@ use Rattle.wl_server.specs.Telling.{IsToldOf, Tells}
 
 -- up to a frame, and with it
 
-events-first : (before : List Event) (frame : Event) (later : List Event) (from to : Moment) → AreEvents nothing_left_out from (before ++ frame ∷ later) to
-    → AreEvents nothing_left_out from (before ++ frame ∷ []) frame.after
+events-first : (before : List Event) (frame : Event) (later : List Event) (from to : Moment) → AreEvents from (before ++ frame ∷ later) to
+    → AreEvents from (before ++ frame ∷ []) frame.after
 events-first [] frame later from to leads = (leads.0, leads.1, refl)
 events-first (e ∷ es) frame later from to leads = (leads.0, leads.1, events-first es frame later e.after to leads.2)
 
@@ -27,11 +26,11 @@ apart-first : (before : List Event) (frame : Event) (later : List Event) → Are
 apart-first [] frame later apart = (apart.0, apart.1, tt)
 apart-first (e ∷ es) frame later apart = (apart.0, apart.1, apart-first es frame later apart.2)
 
-shows-scratch : (from to : Moment) (events : List Event) (liars : ℕ → Bool) → AreApart events → AreEvents nothing_left_out from events to → IsRightBut liars from → ShowsScratch liars events
+shows-scratch : (from to : Moment) (events : List Event) (liars : ℕ → Bool) → AreApart events → AreEvents from events to → IsRightBut liars from → ShowsScratch liars events
 shows-scratch from to events liars apart leads right before frame later broke x y same tick holds w h clear =
-    let up_to = events-first before frame later from to (subst (λ (es : List Event). AreEvents nothing_left_out from es to) same leads) in
+    let up_to = events-first before frame later from to (subst (λ (es : List Event). AreEvents from es to) same leads) in
     let distinct = apart-first before frame later (subst AreApart same apart) in
-    frame-scratch nothing_left_out before frame from frame.after liars broke up_to distinct tick holds right x y w h clear
+    frame-scratch before frame from frame.after liars broke up_to distinct tick holds right x y w h clear
 
 -- ---- what is served
 
@@ -47,7 +46,7 @@ served-as P Q old new takes = λ d agrees.
       t.2,
       t.3,
       (λ liars right. shows-scratch (moment d old) (moment went.desktop new) went.events liars went.apart leads right),
-      (λ liars last broke right. stays_right nothing_left_out (moment d old) (moment went.desktop new) went.events liars last went.apart leads broke right),
+      (λ liars last broke right. stays_right (moment d old) (moment went.desktop new) went.events liars last went.apart leads broke right),
     )
 
 pub served-of : (P : Stretch) (old new : SessionView) → Takes P old new → IsServed P (λ events. ⊤) old new

@@ -49,6 +49,10 @@ pub on-err : {T E P : Type 0} (r : Result T E) → P → OnErr r P
 on-err (Ok x) p = tt
 on-err (Err e) p = p
 
+pub on-err-weaker : {T E P Q : Type 0} (r : Result T E) → (P → Q) → OnErr r P → OnErr r Q
+on-err-weaker (Ok x) weaker p = tt
+on-err-weaker (Err e) weaker p = weaker p
+
 -- what is known of an accept that gave a connection
 pub record Gave {H C : Type 0} (w : Ways H C) (hub to : H) (conn : C) (accepted : ℕ) : Type 0 where
   pub room : accepted < 2 ^ 32 - 1
@@ -231,10 +235,3 @@ close-kept {H} {C} w k first hub to begun seats seat next old mid new x y is sta
     let at_hub = subst (λ (h : H). Takes (InTurn (AtSeat (Closes w)) k (first, begun) (h, seats)) old mid) (sym same) there in
     let at_seats = subst (λ (s : List (Option (Seat C))). Takes (InTurn (AtSeat (Closes w)) k (first, begun) (to, s)) old mid) (sym whole) at_hub in
     subst (λ (v : SessionView). Takes (InTurn (AtSeat (Closes w)) k (first, begun) (to, set seats k next)) old v) (sym stays) at_seats
-
--- all that ended are closed, or the first of them
-pub closes-begun : {T E H C : Type 0} (w : Ways H C) (r : Result T E) (from to : H × List (Option (Seat C))) (old new : SessionView) (x y : Option (List ℕ))
-    → OnOk r (Reports (InTurn (AtSeat (Closes w)) 32 from to) old new x y) → OnErr r ((n : ℕ) × (n ≤ 32) × Takes (InTurn (AtSeat (Closes w)) n from to) old new)
-    → (n : ℕ) × (n ≤ 32) × Takes (InTurn (AtSeat (Closes w)) n from to) old new
-closes-begun w (Ok z) from to old new x y all begun = (32, omega arith, Takes-told (InTurn (AtSeat (Closes w)) 32 from to) old new x y all)
-closes-begun w (Err e) from to old new x y all begun = begun

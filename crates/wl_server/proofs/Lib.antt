@@ -1,5 +1,6 @@
 pub mod Frames
 pub mod Joining
+pub mod Listed
 pub mod Pieces
 pub mod Places
 pub mod PointedLines
@@ -8,3 +9,10 @@ pub mod SentBytes
 pub mod Taking
 pub mod Telling
 pub mod Turning
+pub mod Owing
+pub mod Passing
+pub mod Promise
+pub mod Watched
+pub mod Turned
+pub mod Refreshed
+pub mod Windows

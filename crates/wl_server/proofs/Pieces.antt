@@ -13,7 +13,9 @@ use Rattle.wl_session.specs.View.{SessionView}
 use Rattle.wl_server.specs.Acting.{InTurn, Stretch, Takes}
 use Rattle.wl_server.specs.Seats.{seat_of}
 use Rattle.wl_server.specs.declared.seat.Seat.{Seat}
-use Rattle.wl_server.specs.Phases.{Fills, FillsClient, FillsIf, FillsSeat, FillsUpTo, Gave, IsPiece, Opens, Puts, PutsFile, PutsOnce, PutsSized, puts_from, side_name, total}
+use Rattle.wl_server.specs.Filling.{Gave, IsPiece, Opens, PutsFile, PutsOnce, PutsPart, puts_from, side_name, total}
+use Rattle.wl_server.specs.Phases.{Fills, FillsAs, FillsClient, FillsIf, FillsSeat, FillsStores, FillsUpTo, Puts, PutsSized}
+use Rattle.wl_server.specs.Ranges.{list_name}
 use Rattle.wl_server.proofs.Taking.{Takes-none, Takes-one, Takes-then, Takes-turn, Takes-weaker, idle}
 use Rattle.wl_server.proofs.Places.{same-place}
 
@@ -31,13 +33,13 @@ puts-append c store at (p ∷ pieces) piece =
     ap (λ (acts : List Act). Store c store at p ∷ acts)
     (puts-append c store (at + length p) pieces piece ∙ ap (λ (n : ℕ). puts_from c store (at + length p) pieces ++ Store c store n piece ∷ []) place)
 
--- the open file was put into the store up to this byte
-abbrev pub PutTo : {S : Type 0} → Files S → ℕ → ℕ → ℕ → S → S → Stretch
-PutTo files c store at from to start acts events end =
-    (pieces : List (List ℕ)) × Gave files from pieces to × (acts ≡ puts_from c store 0 pieces) × (total pieces ≡ at)
+-- so many bytes of the open file were put into the store from this byte on
+abbrev pub PutTo : {S : Type 0} → Files S → ℕ → ℕ → ℕ → ℕ → S → S → Stretch
+PutTo files c store at count from to start acts events end =
+    (pieces : List (List ℕ)) × Gave files from pieces to × (acts ≡ puts_from c store at pieces) × (total pieces ≡ count)
 
-pub put-none : {S : Type 0} (files : Files S) (c store : ℕ) (from : S) (v : SessionView) → Takes (PutTo files c store 0 from from) v v
-put-none files c store from v = Takes-none (PutTo files c store 0 from from) v v refl (λ d agrees. ([], Gave.none, refl, refl))
+pub put-none : {S : Type 0} (files : Files S) (c store at : ℕ) (from : S) (v : SessionView) → Takes (PutTo files c store at 0 from from) v v
+put-none files c store at from v = Takes-none (PutTo files c store at 0 from from) v v refl (λ d agrees. ([], Gave.none, refl, refl))
 
 pub put-one : {S : Type 0} (files : Files S) (c store at count : ℕ) (piece : List ℕ) (done : Done) (from to : S) (old new : SessionView) → length piece ≡ count → IsPiece piece
     → files.gives from piece to → TakesCourse (Store c store at piece) done old new → Takes (PutsOnce files c store at count from to) old new
@@ -48,27 +50,30 @@ pub put-end : {S : Type 0} (files : Files S) (c store at : ℕ) (from to : S) (v
     → Takes (PutsOnce files c store at 0 from to) v v
 put-end files c store at from to v ends = Takes-none (PutsOnce files c store at 0 from to) v v refl (λ d agrees. inl (refl, refl, ends))
 
-put-piece : {S : Type 0} (files : Files S) (c store at count : ℕ) (from mid to : S) (start moment end : Moment) (a b : List Act) (es fs gs : List Event) → 0 < count
-    → PutTo files c store at from mid start a es moment → PutsOnce files c store at count mid to moment b fs end → PutTo files c store (at + count) from to start (a ++ b) gs end
-put-piece files c store at count from mid to start moment end a b es fs gs some put (inl none) = absurd (omega (arith, some, none.0))
-put-piece files c store at count from mid to start moment end a b es fs gs some put (inr one) =
+put-piece : {S : Type 0} (files : Files S) (c store at before count : ℕ) (from mid to : S) (start moment end : Moment) (a b : List Act) (es fs gs : List Event) → 0 < count
+    → PutTo files c store at before from mid start a es moment → PutsOnce files c store (at + before) count mid to moment b fs end
+    → PutTo files c store at (before + count) from to start (a ++ b) gs end
+put-piece files c store at before count from mid to start moment end a b es fs gs some put (inl none) = absurd (omega (arith, some, none.0))
+put-piece files c store at before count from mid to start moment end a b es fs gs some put (inr one) =
     let pieces = put.0 ++ one.0 ∷ [] in
-    let place : 0 + total put.0 ≡ at = omega (arith, put.3) in
-    let here : Store c store (0 + total put.0) one.0 ∷ [] ≡ b = ap (λ (n : ℕ). Store c store n one.0 ∷ []) place ∙ sym one.4 in
-    let acts : a ++ b ≡ puts_from c store 0 pieces =
-    ap (λ (front : List Act). front ++ b) put.2 ∙ ap (λ (back : List Act). puts_from c store 0 put.0 ++ back) (sym here) ∙ sym (puts-append c store 0 put.0 one.0) in
+    let here : Store c store (at + total put.0) one.0 ∷ [] ≡ b = ap (λ (n : ℕ). Store c store (at + n) one.0 ∷ []) put.3 ∙ sym one.4 in
+    let acts : a ++ b ≡ puts_from c store at pieces =
+    ap (λ (front : List Act). front ++ b) put.2 ∙ ap (λ (back : List Act). puts_from c store at put.0 ++ back) (sym here) ∙ sym (puts-append c store at put.0 one.0) in
     (pieces, Gave.more one.0 put.1 one.2 one.3, acts, total-more put.0 one.0 ∙ omega (arith, put.3, one.1))
 
-pub put-more : {S : Type 0} (files : Files S) (c store at count : ℕ) (from mid to : S) (old between new : SessionView) → 0 < count → Takes (PutTo files c store at from mid) old between
-    → Takes (PutsOnce files c store at count mid to) between new → Takes (PutTo files c store (at + count) from to) old new
-put-more files c store at count from mid to old between new some put once =
-    Takes-then (PutTo files c store at from mid) (PutsOnce files c store at count mid to) (PutTo files c store (at + count) from to) old between new put once
-    (λ start d e a b es fs ad ae leads goes p q. put-piece files c store at count from mid to start (moment d between) (moment e new) a b es fs (es ++ fs) some p q)
+pub put-more : {S : Type 0} (files : Files S) (c store at before count : ℕ) (from mid to : S) (old between new : SessionView) → 0 < count
+    → Takes (PutTo files c store at before from mid) old between → Takes (PutsOnce files c store (at + before) count mid to) between new
+    → Takes (PutTo files c store at (before + count) from to) old new
+put-more files c store at before count from mid to old between new some put once =
+    Takes-then (PutTo files c store at before from mid) (PutsOnce files c store (at + before) count mid to) (PutTo files c store at (before + count) from to) old between new put once
+    (λ start d e a b es fs ad ae leads goes p q.
+    put-piece files c store at before count from mid to start (moment d between) (moment e new) a b es fs (es ++ fs) some p q)
 
-put-stopped : {S : Type 0} (files : Files S) (c store size at : ℕ) (from mid to : S) (start moment end : Moment) (a b : List Act) (es fs gs : List Event) → at < size
-    → PutTo files c store at from mid start a es moment → PutsOnce files c store at 0 mid to moment b fs end → PutsFile files c store size from to start (a ++ b) gs end
-put-stopped files c store size at from mid to start moment end a b es fs gs few put (inr one) = absurd (omega (arith, one.1, one.2.0))
-put-stopped files c store size at from mid to start moment end a b es fs gs few put (inl none) = record {
+put-stopped : {S : Type 0} (files : Files S) (c store at most before : ℕ) (from mid to : S) (start moment end : Moment) (a b : List Act) (es fs gs : List Event) → before < most
+    → PutTo files c store at before from mid start a es moment → PutsOnce files c store (at + before) 0 mid to moment b fs end
+    → PutsFile files c store at most from to start (a ++ b) gs end
+put-stopped files c store at most before from mid to start moment end a b es fs gs few put (inr one) = absurd (omega (arith, one.1, one.2.0))
+put-stopped files c store at most before from mid to start moment end a b es fs gs few put (inl none) = record {
   pieces = put.0;
   mid = mid;
   gave = put.1;
@@ -77,16 +82,18 @@ put-stopped files c store size at from mid to start moment end a b es fs gs few 
   acts_are = ap (λ (back : List Act). a ++ back) none.1 ∙ append-nil a ∙ put.2;
 }
 
-pub put-last : {S : Type 0} (files : Files S) (c store size at : ℕ) (from mid to : S) (old between new : SessionView) → at < size → Takes (PutTo files c store at from mid) old between
-    → Takes (PutsOnce files c store at 0 mid to) between new → Takes (PutsFile files c store size from to) old new
-put-last files c store size at from mid to old between new few put once =
-    Takes-then (PutTo files c store at from mid) (PutsOnce files c store at 0 mid to) (PutsFile files c store size from to) old between new put once
-    (λ start d e a b es fs ad ae leads goes p q. put-stopped files c store size at from mid to start (moment d between) (moment e new) a b es fs (es ++ fs) few p q)
+pub put-last : {S : Type 0} (files : Files S) (c store at most before : ℕ) (from mid to : S) (old between new : SessionView) → before < most
+    → Takes (PutTo files c store at before from mid) old between → Takes (PutsOnce files c store (at + before) 0 mid to) between new
+    → Takes (PutsFile files c store at most from to) old new
+put-last files c store at most before from mid to old between new few put once =
+    Takes-then (PutTo files c store at before from mid) (PutsOnce files c store (at + before) 0 mid to) (PutsFile files c store at most from to) old between new put once
+    (λ start d e a b es fs ad ae leads goes p q.
+    put-stopped files c store at most before from mid to start (moment d between) (moment e new) a b es fs (es ++ fs) few p q)
 
-pub put-all : {S : Type 0} (files : Files S) (c store size at : ℕ) (from to : S) (old new : SessionView) → at ≡ size → Takes (PutTo files c store at from to) old new
-    → Takes (PutsFile files c store size from to) old new
-put-all files c store size at from to old new full put =
-    Takes-weaker (PutTo files c store at from to) (PutsFile files c store size from to) old new put
+pub put-all : {S : Type 0} (files : Files S) (c store at most count : ℕ) (from to : S) (old new : SessionView) → count ≡ most → Takes (PutTo files c store at count from to) old new
+    → Takes (PutsFile files c store at most from to) old new
+put-all files c store at most count from to old new full put =
+    Takes-weaker (PutTo files c store at count from to) (PutsFile files c store at most from to) old new put
     (λ d e a es ad ae runs p. record {
       pieces = p.0;
       mid = to;
@@ -95,6 +102,20 @@ put-all files c store size at from to old new full put =
       ends = inl (p.3 ∙ full, refl);
       acts_are = p.2;
     })
+
+-- ---- a part of a file
+
+pub part-unopened : {S : Type 0} (files : Files S) (c number store first at most : ℕ) (from to : S) (v : SessionView)
+    → Opens files (side_name number store) first false from to → Takes (PutsPart files c number store first at most from to) v v
+part-unopened files c number store first at most from to v opens =
+    Takes-none (PutsPart files c number store first at most from to) v v refl (λ d agrees. (false, to, opens, idle to (moment d v)))
+
+pub part-opened : {S : Type 0} (files : Files S) (c number store first at most : ℕ) (from opened to : S) (old new : SessionView)
+    → Opens files (side_name number store) first true from opened → Takes (PutsFile files c store at most opened to) old new
+    → Takes (PutsPart files c number store first at most from to) old new
+part-opened files c number store first at most from opened to old new opens takes =
+    Takes-weaker (PutsFile files c store at most opened to) (PutsPart files c number store first at most from to) old new takes
+    (λ d e a es ad ae runs p. (true, opened, opens, p))
 
 -- ---- a store
 
@@ -112,18 +133,9 @@ put-nowhere files c number store from v sized =
     put-sized files c number store None from from v v sized
     (Takes-none (PutsSized files c number store None from from) v v refl (λ d agrees. idle from (moment d v)))
 
-pub put-unopened : {S : Type 0} (files : Files S) (c number store size : ℕ) (from to : S) (v : SessionView) → HasSize c store (Some size) v → Opens files (side_name number store) false from to
-    → Takes (Puts files c number store from to) v v
-put-unopened files c number store size from to v sized opens =
-    put-sized files c number store (Some size) from to v v sized
-    (Takes-none (PutsSized files c number store (Some size) from to) v v refl (λ d agrees. (false, to, opens, idle to (moment d v))))
-
-pub put-opened : {S : Type 0} (files : Files S) (c number store size : ℕ) (from opened to : S) (old new : SessionView) → HasSize c store (Some size) old
-    → Opens files (side_name number store) true from opened → Takes (PutsFile files c store size opened to) old new → Takes (Puts files c number store from to) old new
-put-opened files c number store size from opened to old new sized opens takes =
-    put-sized files c number store (Some size) from to old new sized
-    (Takes-weaker (PutsFile files c store size opened to) (PutsSized files c number store (Some size) from to) old new takes
-    (λ d e a es ad ae runs p. (true, opened, opens, p)))
+pub put-whole : {S : Type 0} (files : Files S) (c number store size : ℕ) (from to : S) (old new : SessionView) → HasSize c store (Some size) old
+    → Takes (PutsPart files c number store 0 0 size from to) old new → Takes (Puts files c number store from to) old new
+put-whole files c number store size from to old new sized takes = put-sized files c number store (Some size) from to old new sized takes
 
 -- ---- store after store
 
@@ -144,10 +156,18 @@ filled-more files c number before store from mid to old between new next filled 
     FillsUpTo.more before mid to (moment d between) (moment e new) a b es fs store p (sym (next d ad)) leads goes q)
 
 pub filled-all : {S : Type 0} (files : Files S) (c number last : ℕ) (from to : S) (old new : SessionView) → IsNext c last None new → Takes (FilledTo files c number last from to) old new
-    → Takes (FillsClient files c number from to) old new
+    → Takes (FillsStores files c number from to) old new
 filled-all files c number last from to old new next filled =
-    Takes-weaker (FilledTo files c number last from to) (FillsClient files c number from to) old new filled
+    Takes-weaker (FilledTo files c number last from to) (FillsStores files c number from to) old new filled
     (λ d e a es ad ae runs p. (last, p, sym (next e ae)))
+
+-- ---- those of a client, by its list or whole
+
+pub client-filled : {S : Type 0} (files : Files S) (c number : ℕ) (is_listed : Bool) (from opened to : S) (old new : SessionView)
+    → Opens files (list_name number) 0 is_listed from opened → Takes (FillsAs is_listed files c number opened to) old new → Takes (FillsClient files c number from to) old new
+client-filled files c number is_listed from opened to old new opens takes =
+    Takes-weaker (FillsAs is_listed files c number opened to) (FillsClient files c number from to) old new takes
+    (λ d e a es ad ae runs p. (is_listed, opened, opens, p))
 
 -- ---- those of a client that sent bytes
 
@@ -178,5 +198,12 @@ fill-next {C} files seats k first from to seat old mid new is before own =
     (subst (λ (s : Option (Seat C)). Takes (FillsSeat files (k + 1) s from to) mid new) here own)
 
 -- what is said of an opening is said of a value that is known
-pub opens-as : {S : Type 0} (files : Files S) (name : List ℕ) (there is : Bool) (from to : S) → there ≡ is → Opens files name there from to → Opens files name is from to
-opens-as files name there is from to same opens = subst (λ (b : Bool). Opens files name b from to) same opens
+pub opens-as : {S : Type 0} (files : Files S) (name : List ℕ) (first : ℕ) (there is : Bool) (from to : S) → there ≡ is → Opens files name first there from to
+    → Opens files name first is from to
+opens-as files name first there is from to same opens = subst (λ (b : Bool). Opens files name first b from to) same opens
+
+-- and of a file by the name that it has
+pub opens-named : {S : Type 0} (files : Files S) (said name : List ℕ) (first : ℕ) (there is : Bool) (from to : S) → said ≡ name → there ≡ is
+    → Opens files said first there from to → Opens files name first is from to
+opens-named files said name first there is from to named same opens =
+    subst (λ (n : List ℕ). Opens files n first is from to) named (opens-as files said first there is from to same opens)

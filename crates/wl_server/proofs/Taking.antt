@@ -3,7 +3,6 @@ use Rattle.std.proofs.Common.{◌≡◌, ◌+◌, ℕ, suc, List, [], ◌∷◌,
 use Rattle.spec_desktop.specs.declared.answers.Done.{Done}
 use Rattle.spec_desktop.specs.Act.{Act}
 use Rattle.spec_desktop.specs.Desktop.{Desktop}
-use Rattle.spec_desktop.specs.LeftOut.{LeftOut, nothing_left_out}
 use Rattle.wl_session.specs.Agreeing.{Agrees}
 use Rattle.wl_session.specs.Course.{AreParts, Course, Runs, TakesCourse, happenings, moment}
 use Rattle.wl_session.specs.Events.{Event, Moment}
@@ -11,11 +10,11 @@ use Rattle.wl_session.specs.View.{SessionView}
 use Rattle.wl_session.proofs.Courses.{apart-then}
 use Rattle.wl_server.specs.Acting.{Idle, InTurn, Stretch, Takes, Then, Went}
 
-pub runs-append : (left : LeftOut) (acts more : List Act) (from mid to : Moment) (events others : List Event) → Runs left from acts events mid → Runs left mid more others to
-    → Runs left from (acts ++ more) (events ++ others) to
-runs-append left [] more from mid to events others first next =
-    subst (λ (es : List Event). Runs left from more (es ++ others) to) (sym first.0) (subst (λ (m : Moment). Runs left m more others to) first.1 next)
-runs-append left (act ∷ acts) more from mid to events others first next = (
+pub runs-append : (acts more : List Act) (from mid to : Moment) (events others : List Event) → Runs from acts events mid → Runs mid more others to
+    → Runs from (acts ++ more) (events ++ others) to
+runs-append [] more from mid to events others first next =
+    subst (λ (es : List Event). Runs from more (es ++ others) to) (sym first.0) (subst (λ (m : Moment). Runs m more others to) first.1 next)
+runs-append (act ∷ acts) more from mid to events others first next = (
   first.0,
   first.1,
   first.2,
@@ -24,7 +23,7 @@ runs-append left (act ∷ acts) more from mid to events others first next = (
   first.5,
   first.6,
   ap (λ (es : List Event). es ++ others) first.7 ∙ append_assoc first.2 first.3 others,
-  runs-append left acts more first.0 mid to first.3 others first.8 next,
+  runs-append acts more first.0 mid to first.3 others first.8 next,
 )
 
 -- ---- where acts lead
@@ -51,7 +50,7 @@ abbrev pub went-then : (a b : List Act) (old mid new : SessionView) (d : Desktop
 went-then a b old mid new d first next = record {
   desktop = next.desktop;
   events = first.events ++ next.events;
-  runs = runs-append nothing_left_out a b (moment d old) (moment first.desktop mid) (moment next.desktop new) first.events next.events first.runs next.runs;
+  runs = runs-append a b (moment d old) (moment first.desktop mid) (moment next.desktop new) first.events next.events first.runs next.runs;
   apart = apart-then first.events next.events first.apart next.apart;
   agrees = next.agrees;
 }
@@ -62,7 +61,7 @@ went-then a b old mid new d first next = record {
 abbrev pub Joins : Stretch → Stretch → Stretch → SessionView → SessionView → Type 0
 Joins P Q R mid new =
     (start : Moment) (d e : Desktop) (a b : List Act) (es fs : List Event) → Agrees mid.desk d → Agrees new.desk e
-    → Runs nothing_left_out start a es (moment d mid) → Runs nothing_left_out (moment d mid) b fs (moment e new)
+    → Runs start a es (moment d mid) → Runs (moment d mid) b fs (moment e new)
     → P start a es (moment d mid) → Q (moment d mid) b fs (moment e new) → R start (a ++ b) (es ++ fs) (moment e new)
 
 pub Takes-none : (P : Stretch) (old new : SessionView) → new ≡ old → ((d : Desktop) → Agrees old.desk d → P (moment d old) [] [] (moment d new)) → Takes P old new
@@ -84,7 +83,7 @@ Takes-then P Q R old mid new first next join = λ d agrees.
 abbrev pub Weakens : Stretch → Stretch → SessionView → SessionView → Type 0
 Weakens P Q old new =
     (d e : Desktop) (a : List Act) (es : List Event) → Agrees old.desk d → Agrees new.desk e
-    → Runs nothing_left_out (moment d old) a es (moment e new) → P (moment d old) a es (moment e new) → Q (moment d old) a es (moment e new)
+    → Runs (moment d old) a es (moment e new) → P (moment d old) a es (moment e new) → Q (moment d old) a es (moment e new)
 
 pub Takes-weaker : (P Q : Stretch) (old new : SessionView) → Takes P old new → Weakens P Q old new → Takes Q old new
 Takes-weaker P Q old new takes weaker = λ d agrees.
@@ -110,7 +109,7 @@ pub idle-is : {W : Type 0} (from to : W) (start end : Moment) → to ≡ from �
 idle-is from to start end same ends = record { kept = same; acts_are = refl; events_are = refl; stays = ends }
 
 pub both : {W : Type 0} (P Q : W → W → Stretch) (from mid to : W) (start moment end : Moment) (a b : List Act) (es fs : List Event)
-    → Runs nothing_left_out start a es moment → Runs nothing_left_out moment b fs end → P from mid start a es moment → Q mid to moment b fs end
+    → Runs start a es moment → Runs moment b fs end → P from mid start a es moment → Q mid to moment b fs end
     → Then P Q from to start (a ++ b) (es ++ fs) end
 both P Q from mid to start moment end a b es fs leads goes p q = record {
   mid = mid;

@@ -9,7 +9,6 @@ use Rattle.std.proofs.KnownBytes.{Appends-nil, Appends-trans}
 use Rattle.std.proofs.lemmas.List.Elements.{All-append, All-cons, All-head, All-map, All-nil, All-tail, All-weaker}
 use Rattle.spec_desktop.specs.Act.{Act, Connect, Feed, Store, Leave, Tick, Send, Close, Motion, Button}
 use Rattle.spec_desktop.specs.Happenings.{Happening, Message, Receive, Single, Starve}
-use Rattle.spec_desktop.specs.LeftOut.{nothing_left_out}
 use Rattle.spec_desktop.specs.declared.answers.Done.{Done}
 use Rattle.wl_session.specs.Course.{AreParts, Runs, TakesCourse, happenings, moment}
 use Rattle.wl_session.specs.Agreeing.{Agrees}
@@ -21,9 +20,12 @@ use Rattle.wl_server.specs.declared.seat.Seat.{Seat}
 use Rattle.wl_recording.specs.Side.{Files}
 use Rattle.wl_recording.specs.declared.pointer.PointerLine.{PointerLine}
 use Rattle.wl_recording.specs.declared.pointer.PointerLine.TheVariants as line
+use Rattle.wl_recording.specs.declared.range.StoreRange.{StoreRange}
 use Rattle.wl_server.specs.Acting.{InTurn, Stretch, Takes}
 use Rattle.wl_server.specs.Due.{asked_of}
-use Rattle.wl_server.specs.Phases.{Accepts, AcceptsAll, AtSeat, Closes, ClosesIf, EndsReading, Fills, FillsIf, FillsSeat, FillsUpTo, IfSeated, Link, Place, Points, PutsIf, PutsSized, Reads, ReadsClient, StopsReading, Writes, WritesClient, WritesSome, leaves_if, puts_from}
+use Rattle.wl_server.specs.Phases.{Accepts, AcceptsAll, AtSeat, Closes, ClosesIf, EndsReading, Fills, FillsAs, FillsIf, FillsSeat, FillsUpTo, IfSeated, Link, Place, Points, PutsSized, Reads, ReadsClient, ReadsUntil, IsSixteen, StopsReading, Writes, WritesClient, WritesSome, leaves_if}
+use Rattle.wl_server.specs.Filling.{PutsIf, PutsPart, puts_from}
+use Rattle.wl_server.specs.Ranges.{PutsRangeIn, PutsRanges}
 use Rattle.wl_server.specs.Ways.{Ways}
 use Rattle.wl_server.specs.Telling.{Reports, Telling, Tells, gathered, if_painted, pictured, reported}
 use Rattle.wl_server.proofs.Taking.{Joins, Weakens, went-none, went-one, went-then}
@@ -44,7 +46,7 @@ head_or other [] = other
 head_or other (h ∷ hs) = h
 
 -- what is told of a step that is one event
-pub told-single : (tell : Telling) (h : Happening) (from to : Moment) (events : List Event) → happenings events ≡ h ∷ [] → AreEvents nothing_left_out from events to
+pub told-single : (tell : Telling) (h : Happening) (from to : Moment) (events : List Event) → happenings events ≡ h ∷ [] → AreEvents from events to
     → gathered tell events ≡ tell h from to
 unfolding head_or
 told-single tell h from to [] parts leads = absurd (cc)
@@ -56,7 +58,7 @@ told-single tell h from to (e ∷ []) parts leads =
 
 -- ---- steps of which nothing is told
 
-quiet_of : (Act → Bool) → Happening → Bool
+unfoldable pub quiet_of : (Act → Bool) → Happening → Bool
 quiet_of quiet (Receive client piece) = true
 quiet_of quiet (Message client) = true
 quiet_of quiet (Starve client) = true
@@ -65,7 +67,7 @@ quiet_of quiet (Single act done) = quiet act
 IsSilent : Telling → (Act → Bool) → Type 0
 IsSilent tell quiet = (h : Happening) (a b : Moment) → quiet_of quiet h ≡ true → tell h a b ≡ []
 
-AreQuiet : (Act → Bool) → List Happening → Type 0
+unfoldable pub AreQuiet : (Act → Bool) → List Happening → Type 0
 AreQuiet quiet [] = Unit {0}
 AreQuiet quiet (h ∷ hs) = (quiet_of quiet h ≡ true) × AreQuiet quiet hs
 
@@ -74,7 +76,7 @@ unfolding quiet_of AreQuiet
 messages-quiet quiet zero client = tt
 messages-quiet quiet (suc n) client = (refl, messages-quiet quiet n client)
 
-parts-quiet : (quiet : Act → Bool) (act : Act) (done : Done) (parts : List Happening) → quiet act ≡ true → AreParts act done parts → AreQuiet quiet parts
+pub parts-quiet : (quiet : Act → Bool) (act : Act) (done : Done) (parts : List Happening) → quiet act ≡ true → AreParts act done parts → AreQuiet quiet parts
 unfolding quiet_of AreQuiet
 parts-quiet quiet Connect done parts is are = subst (AreQuiet quiet) (sym are) (is, tt)
 parts-quiet quiet (Feed client piece) done parts is (inl are) = subst (AreQuiet quiet) (sym are) tt
@@ -95,7 +97,7 @@ events-quiet tell quiet (e ∷ es) silent are =
     ap (λ (front : List ℕ). front ++ gathered tell es) (silent e.happening e.before e.after are.0) ∙ events-quiet tell quiet es silent are.1
 
 runs-quiet : (tell : Telling) (quiet : Act → Bool) (acts : List Act) (from to : Moment) (events : List Event) → IsSilent tell quiet → AllPass quiet acts
-    → Runs nothing_left_out from acts events to → gathered tell events ≡ []
+    → Runs from acts events to → gathered tell events ≡ []
 runs-quiet tell quiet [] from to events silent pass run = ap (gathered tell) run.0
 runs-quiet tell quiet (act ∷ acts) from to events silent pass run =
     let now : gathered tell run.2 ≡ [] =
@@ -104,7 +106,7 @@ runs-quiet tell quiet (act ∷ acts) from to events silent pass run =
     ap (gathered tell) run.7 ∙ (gathered-then tell run.2 run.3 ∙ (ap (λ (front : List ℕ). front ++ gathered tell run.3) now ∙ later))
 
 -- no line tells of these
-pub has_no_line : Act → Bool
+unfoldable pub has_no_line : Act → Bool
 has_no_line Connect = false
 has_no_line (Feed client piece) = true
 has_no_line (Store client store at bytes) = true
@@ -116,7 +118,7 @@ has_no_line (Motion time x y) = true
 has_no_line (Button time button pressed) = true
 
 -- no image shows these
-pub has_no_picture : Act → Bool
+unfoldable pub has_no_picture : Act → Bool
 has_no_picture Connect = true
 has_no_picture (Feed client piece) = true
 has_no_picture (Store client store at bytes) = true
@@ -157,7 +159,7 @@ picture-silent (Single (Close client) done) a b is = refl
 picture-silent (Single (Motion time x y) done) a b is = refl
 picture-silent (Single (Button time button pressed) done) a b is = refl
 
-no-line-no-picture : (act : Act) → has_no_line act ≡ true → has_no_picture act ≡ true
+pub no-line-no-picture : (act : Act) → has_no_line act ≡ true → has_no_picture act ≡ true
 unfolding has_no_line has_no_picture
 no-line-no-picture Connect is = refl
 no-line-no-picture (Feed client piece) is = refl
@@ -175,13 +177,17 @@ no-line-no-picture (Button time button pressed) is = refl
 abbrev pub PassesAll : (Act → Bool) → Stretch → Type 0
 PassesAll quiet P = (start end : Moment) (acts : List Act) (events : List Event) → P start acts events end → AllPass quiet acts
 
-none-pass : (quiet : Act → Bool) (acts : List Act) → acts ≡ [] → AllPass quiet acts
+-- what nothing is said of shows nothing
+pub unseen : (P : Stretch) → PassesAll has_no_line P → PassesAll has_no_picture P
+unseen P pass start end acts events p = All-weaker (λ act. has_no_line act ≡ true) (λ act. has_no_picture act ≡ true) no-line-no-picture acts (pass start end acts events p)
+
+pub none-pass : (quiet : Act → Bool) (acts : List Act) → acts ≡ [] → AllPass quiet acts
 none-pass quiet acts none = subst (AllPass quiet) (sym none) (All-nil (λ a. quiet a ≡ true))
 
-both-pass : (quiet : Act → Bool) (acts a b : List Act) → acts ≡ a ++ b → AllPass quiet a → AllPass quiet b → AllPass quiet acts
+pub both-pass : (quiet : Act → Bool) (acts a b : List Act) → acts ≡ a ++ b → AllPass quiet a → AllPass quiet b → AllPass quiet acts
 both-pass quiet acts a b are first next = subst (AllPass quiet) (sym are) (All-append (λ act. quiet act ≡ true) a b first next)
 
-in-turn-pass : {W : Type 0} (quiet : Act → Bool) (Own : ℕ → W → W → Stretch) → ((k : ℕ) (from to : W) → PassesAll quiet (Own k from to))
+pub in-turn-pass : {W : Type 0} (quiet : Act → Bool) (Own : ℕ → W → W → Stretch) → ((k : ℕ) (from to : W) → PassesAll quiet (Own k from to))
     → (n : ℕ) (from to : W) → PassesAll quiet (InTurn Own n from to)
 unfolding InTurn
 in-turn-pass quiet Own each zero from to start end acts events none = none-pass quiet acts none.acts_are
@@ -190,15 +196,15 @@ in-turn-pass quiet Own each (suc n) from to start end acts events some =
     (in-turn-pass quiet Own each n from some.mid start some.moment some.first some.early some.does)
     (each (suc n) some.mid to some.moment end some.next some.late some.follows)
 
-one-pass : (quiet : Act → Bool) (act : Act) → quiet act ≡ true → AllPass quiet (act ∷ [])
+pub one-pass : (quiet : Act → Bool) (act : Act) → quiet act ≡ true → AllPass quiet (act ∷ [])
 one-pass quiet act is = All-cons (λ a. quiet a ≡ true) act [] is (All-nil (λ a. quiet a ≡ true))
 
-if-seated-pass : {H C : Type 0} (quiet : Act → Bool) (P : Link H C → Link H C → Stretch) → ((from to : Link H C) → PassesAll quiet (P from to))
+pub if-seated-pass : {H C : Type 0} (quiet : Act → Bool) (P : Link H C → Link H C → Stretch) → ((from to : Link H C) → PassesAll quiet (P from to))
     → (from to : Place H C) → PassesAll quiet (IfSeated P from to)
 if-seated-pass quiet P each (hub, None) to start end acts events none = none-pass quiet acts none.acts_are
 if-seated-pass quiet P each (hub, Some seat) to start end acts events some = each (hub, seat) (to.0, some.0) start end acts events some.1
 
-at-seat-pass : {H C : Type 0} (quiet : Act → Bool) (Own : ℕ → Place H C → Place H C → Stretch) → ((k : ℕ) (from to : Place H C) → PassesAll quiet (Own k from to))
+pub at-seat-pass : {H C : Type 0} (quiet : Act → Bool) (Own : ℕ → Place H C → Place H C → Stretch) → ((k : ℕ) (from to : Place H C) → PassesAll quiet (Own k from to))
     → (k : ℕ) (from to : H × List (Option (Seat C))) → PassesAll quiet (AtSeat Own k from to)
 at-seat-pass quiet Own each k from to start end acts events some = each k _ _ start end acts events some.1
 
@@ -222,19 +228,19 @@ unfolding has_no_line
 ends-pass w client acts hub to conn next (inl none) = none-pass has_no_line acts none.0
 ends-pass w client acts hub to conn next (inr one) = subst (AllPass has_no_line) (sym one.0) (one-pass has_no_line (Leave client) refl)
 
-stops-pass : {H C : Type 0} (w : Ways H C) (client reads : ℕ) (acts : List Act) (from to : Link H C) → StopsReading w client reads acts from to → AllPass has_no_line acts
-stops-pass w client reads acts from to (inl all) = none-pass has_no_line acts all.1
-stops-pass w client reads acts from to (inr one) = ends-pass w client acts _ _ _ _ one.1.ends
+stops-pass : {H C : Type 0} (IsOver : ℕ → Type 0) (w : Ways H C) (client reads : ℕ) (acts : List Act) (from to : Link H C) → StopsReading IsOver w client reads acts from to → AllPass has_no_line acts
+stops-pass IsOver w client reads acts from to (inl all) = none-pass has_no_line acts all.1
+stops-pass IsOver w client reads acts from to (inr one) = ends-pass w client acts _ _ _ _ one.1.ends
 
-reads-pass : {H C : Type 0} (w : Ways H C) (client : ℕ) (from to : Link H C) → PassesAll has_no_line (ReadsClient w client from to)
+pub reads-pass : {H C : Type 0} (IsOver : ℕ → Type 0) (w : Ways H C) (client : ℕ) (from to : Link H C) → PassesAll has_no_line (ReadsUntil IsOver w client from to)
 unfolding has_no_line
-reads-pass w client from to start end acts events read =
+reads-pass IsOver w client from to start end acts events read =
     both-pass has_no_line acts (map (Feed client) read.pieces) read.last read.acts_are
-    (All-map (λ a. has_no_line a ≡ true) (Feed client) read.pieces (λ k d h. refl)) (stops-pass w client _ read.last _ _ read.stops)
+    (All-map (λ a. has_no_line a ≡ true) (Feed client) read.pieces (λ k d h. refl)) (stops-pass IsOver w client _ read.last _ _ read.stops)
 
 pub all-reads-pass : {H C : Type 0} (w : Ways H C) (n : ℕ) (from to : H × List (Option (Seat C))) → PassesAll has_no_line (InTurn (AtSeat (Reads w)) n from to)
 all-reads-pass w n from to =
-    in-turn-pass has_no_line (AtSeat (Reads w)) (at-seat-pass has_no_line (Reads w) (λ k. if-seated-pass has_no_line (ReadsClient w k) (reads-pass w k))) n from to
+    in-turn-pass has_no_line (AtSeat (Reads w)) (at-seat-pass has_no_line (Reads w) (λ k. if-seated-pass has_no_line (ReadsClient w k) (reads-pass IsSixteen w k))) n from to
 
 -- filling
 
@@ -244,13 +250,28 @@ puts-from-pass c store at [] = All-nil (λ a. has_no_line a ≡ true)
 puts-from-pass c store at (piece ∷ pieces) =
     All-cons (λ a. has_no_line a ≡ true) (Store c store at piece) (puts_from c store (at + length piece) pieces) refl (puts-from-pass c store (at + length piece) pieces)
 
-puts-if-pass : {S : Type 0} (there : Bool) (files : Files S) (c store size : ℕ) (from to : S) → PassesAll has_no_line (PutsIf there files c store size from to)
-puts-if-pass true files c store size from to start end acts events put = subst (AllPass has_no_line) (sym put.acts_are) (puts-from-pass c store 0 put.pieces)
-puts-if-pass false files c store size from to start end acts events none = none-pass has_no_line acts none.acts_are
+puts-if-pass : {S : Type 0} (there : Bool) (files : Files S) (c store at most : ℕ) (from to : S) → PassesAll has_no_line (PutsIf there files c store at most from to)
+puts-if-pass true files c store at most from to start end acts events put = subst (AllPass has_no_line) (sym put.acts_are) (puts-from-pass c store at put.pieces)
+puts-if-pass false files c store at most from to start end acts events none = none-pass has_no_line acts none.acts_are
+
+puts-part-pass : {S : Type 0} (files : Files S) (c number store first at most : ℕ) (from to : S) → PassesAll has_no_line (PutsPart files c number store first at most from to)
+puts-part-pass files c number store first at most from to start end acts events put = puts-if-pass put.0 files c store at most put.1 to start end acts events put.3
 
 puts-sized-pass : {S : Type 0} (files : Files S) (c number store : ℕ) (size : Option ℕ) (from to : S) → PassesAll has_no_line (PutsSized files c number store size from to)
 puts-sized-pass files c number store None from to start end acts events none = none-pass has_no_line acts none.acts_are
-puts-sized-pass files c number store (Some size) from to start end acts events put = puts-if-pass put.0 files c store size put.1 to start end acts events put.3
+puts-sized-pass files c number store (Some size) from to start end acts events put = puts-part-pass files c number store 0 0 size from to start end acts events put
+
+puts-range-pass : {S : Type 0} (files : Files S) (c number : ℕ) (range : StoreRange) (size : Option ℕ) (from to : S)
+    → PassesAll has_no_line (PutsRangeIn files c number range size from to)
+puts-range-pass files c number range None from to start end acts events none = none-pass has_no_line acts none.acts_are
+puts-range-pass files c number range (Some size) from to start end acts events put = puts-part-pass files c number _ _ _ _ from to start end acts events put
+
+puts-ranges-pass : {S : Type 0} (files : Files S) (c number : ℕ) (ranges : List StoreRange) (from to : S) → PassesAll has_no_line (PutsRanges files c number ranges from to)
+puts-ranges-pass files c number [] from to start end acts events none = none-pass has_no_line acts none.acts_are
+puts-ranges-pass files c number (range ∷ ranges) from to start end acts events some =
+    both-pass has_no_line acts some.first some.next some.acts_are
+    (puts-range-pass files c number range _ from some.mid start some.moment some.first some.early some.does)
+    (puts-ranges-pass files c number ranges some.mid to some.moment end some.next some.late some.follows)
 
 fills-up-pass : {S : Type 0} (files : Files S) (c number : ℕ) (from : S) (start : Moment) (last : ℕ) (to : S) (acts : List Act) (events : List Event) (end : Moment)
     → FillsUpTo files c number from start last to acts events end → AllPass has_no_line acts
@@ -259,11 +280,15 @@ fills-up-pass files c number from start last to acts events end (FillsUpTo.more 
     All-append (λ act. has_no_line act ≡ true) first next (fills-up-pass files c number from start before mid first early moment filled)
     (puts-sized-pass files c number store _ mid to moment end next late puts)
 
+fills-as-pass : {S : Type 0} (listed : Bool) (files : Files S) (c number : ℕ) (from to : S) → PassesAll has_no_line (FillsAs listed files c number from to)
+fills-as-pass true files c number from to start end acts events fills = puts-ranges-pass files c number _ fills.1 to start end acts events fills.3
+fills-as-pass false files c number from to start end acts events fills = fills-up-pass files c number from start fills.0 to acts events end fills.1
+
 fills-if-pass : {S : Type 0} (sent : Bool) (files : Files S) (c number : ℕ) (from to : S) → PassesAll has_no_line (FillsIf sent files c number from to)
-fills-if-pass true files c number from to start end acts events fills = fills-up-pass files c number from start fills.0 to acts events end fills.1
+fills-if-pass true files c number from to start end acts events fills = fills-as-pass fills.0 files c number fills.1 to start end acts events fills.3
 fills-if-pass false files c number from to start end acts events none = none-pass has_no_line acts none.acts_are
 
-fills-seat-pass : {C S : Type 0} (files : Files S) (c : ℕ) (seat : Option (Seat C)) (from to : S) → PassesAll has_no_line (FillsSeat files c seat from to)
+pub fills-seat-pass : {C S : Type 0} (files : Files S) (c : ℕ) (seat : Option (Seat C)) (from to : S) → PassesAll has_no_line (FillsSeat files c seat from to)
 fills-seat-pass files c None from to start end acts events none = none-pass has_no_line acts none.acts_are
 fills-seat-pass files c (Some seat) from to start end acts events fills = fills-if-pass seat.has_sent files c seat.number from to start end acts events fills
 

@@ -1,5 +1,6 @@
 -- A turn, joined of its phases.
-use Rattle.std.proofs.Common.{◌≤◌, ℕ, Option, List, refl, inl, inr}
+use Rattle.std.proofs.Common.{◌≤◌, ℕ, Option, List, None, Result, Ok, Err, refl, inl, inr, arith}
+use Rattle.std.specs.Prelude.{OnErr, OnOk}
 use Rattle.wl_recording.specs.Side.{Files}
 use Rattle.wl_recording.specs.declared.pointer.PointerLine.{PointerLine}
 use Rattle.wl_session.specs.Course.{moment}
@@ -7,13 +8,14 @@ use Rattle.wl_session.specs.View.{SessionView}
 use Rattle.wl_server.specs.declared.seat.Seat.{Seat}
 use Rattle.wl_server.specs.Acting.{InTurn, Stretch, Takes, Then}
 use Rattle.wl_server.specs.Due.{due_at, left_at}
-use Rattle.wl_server.specs.Phases.{Accepting, AcceptsAll, AtSeat, BeginsAccepting, Closes, Fills, Filling, ForEach, FromFrame, IsTurn}
-use Rattle.wl_server.specs.Phases.{Pointing, Points, Reads, Serves, Showing, Shows, StartsServing, StartsTurn, UpToFrame, Writes}
+use Rattle.wl_server.specs.Phases.{Accepting, AcceptsAll, AtSeat, BeginsAccepting, Closes, Fills, Filling, ForEach, FromFrame, Intake, IsTurnBy}
+use Rattle.wl_server.specs.Phases.{Pointing, Points, Reads, Serves, Showing, Shows, StartsIn, StartsServing, StartsTurnBy, TakesIn, UpToFrame, Writes}
 use Rattle.wl_server.specs.Seats.{Seated}
+use Rattle.wl_server.specs.ShortTurns.{ServesBetween, StartsBetween}
 use Rattle.wl_server.specs.Telling.{Reports, Tells}
 use Rattle.wl_server.specs.Ways.{Serving, Ways, serving}
 use Rattle.wl_server.proofs.Taking.{Takes-both, Takes-weaker, both}
-use Rattle.wl_server.proofs.Telling.{Tells-quiet, Tells-then, Tells-unseen, Tells-weaker, accepts-pass, all-closes-pass, all-fills-pass, all-reads-pass, all-writes-pass, points-pass}
+use Rattle.wl_server.proofs.Telling.{PassesAll, Reports-then, Reports-weaker, Takes-told, Tells-quiet, Tells-then, Tells-unseen, Tells-weaker, accepts-pass, all-closes-pass, all-fills-pass, all-reads-pass, all-writes-pass, both-pass, has_no_line, has_no_picture, points-pass, unseen}
 
 -- ---- phases of all that the server works on
 
@@ -26,124 +28,172 @@ Tells-both P Q from between to old mid new x y z i j k first next =
     Tells-then (P from between) (Q between to) (Then P Q from to) old mid new x y z i j k first next
     (λ start d e a b es fs ad ae leads goes p q. both P Q from between to start (moment d mid) (moment e new) a b es fs leads goes p q)
 
--- ---- up to the frame
+pub Reports-both : {W : Type 0} (P Q : W → W → Stretch) (from between to : W) (old mid new : SessionView) (x y z : Option (List ℕ)) → Reports (P from between) old mid x y
+    → Reports (Q between to) mid new y z → Reports (Then P Q from to) old new x z
+Reports-both P Q from between to old mid new x y z first next =
+    Reports-then (P from between) (Q between to) (Then P Q from to) old mid new x y z first next
+    (λ start d e a b es fs ad ae leads goes p q. both P Q from between to start (moment d mid) (moment e new) a b es fs leads goes p q)
 
-pub up-to-frame : {H C S : Type 0} (w : Ways H C) (files : Files S) (time : ℕ) (h0 h1 h2 : H) (a0 a1 : ℕ) (s0 s1 s2 : List (Option (Seat C))) (f0 f1 : S)
-    (lines : List PointerLine) (v0 v1 v2 v3 v4 : SessionView)
-    → Takes (AcceptsAll w (h0, record { accepted = a0; seats = s0 }) (h1, record { accepted = a1; seats = s1 })) v0 v1
-    → Takes (InTurn (AtSeat (Reads w)) 32 (h1, s1) (h2, s2)) v1 v2 → Takes (InTurn (Fills files s2) 32 f0 f1) v2 v3 → Takes (Shows time) v3 v4
-    → Takes (UpToFrame w files time (serving h0 (record { accepted = a0; seats = s0 }) f0 lines) (serving h2 (record { accepted = a1; seats = s2 }) f1 lines)) v0 v4
+-- nothing is told on the report
+pub Reports-quiet : (P : Stretch) (old new : SessionView) (report : Option (List ℕ)) → PassesAll has_no_line P → Takes P old new → Reports P old new report report
+Reports-quiet P old new report pass takes = λ d agrees.
+    let a = Tells-quiet P old new report None pass takes d agrees in (a.0, a.1, a.2, a.3.0)
+
+-- ---- the clients are taken in
+
+pub read-filled : {H C S : Type 0} (w : Ways H C) (files : Files S) (h0 h1 : H) (a0 : ℕ) (s0 s1 : List (Option (Seat C))) (f0 f1 : S) (lines : List PointerLine) (v0 v1 v2 : SessionView)
+    → Takes (InTurn (AtSeat (Reads w)) 32 (h0, s0) (h1, s1)) v0 v1 → Takes (InTurn (Fills files s1) 32 f0 f1) v1 v2
+    → Takes (Then (ForEach (Reads w) 32) (Filling files) (serving h0 (record { accepted = a0; seats = s0 }) f0 lines) (serving h1 (record { accepted = a0; seats = s1 }) f1 lines)) v0 v2
 unfolding at
-up-to-frame w files time h0 h1 h2 a0 a1 s0 s1 s2 f0 f1 lines v0 v1 v2 v3 v4 accepts reads fills shows =
+read-filled w files h0 h1 a0 s0 s1 f0 f1 lines v0 v1 v2 reads fills =
     let m0 = at h0 a0 s0 f0 lines in
-    let m1 = at h1 a1 s1 f0 lines in
-    let m2 = at h2 a1 s2 f0 lines in
-    let m3 = at h2 a1 s2 f1 lines in
-    let accepting = Takes-weaker (AcceptsAll w (h0, record { accepted = a0; seats = s0 }) (h1, record { accepted = a1; seats = s1 })) (Accepting w m0 m1) v0 v1
-    accepts (λ d e a es ad ae runs p. (p, refl, refl)) in
-    let reading = Takes-weaker (InTurn (AtSeat (Reads w)) 32 (h1, s1) (h2, s2)) (ForEach (Reads w) 32 m1 m2) v1 v2 reads (λ d e a es ad ae runs p. (p, refl, refl, refl)) in
-    let filling = Takes-weaker (InTurn (Fills files s2) 32 f0 f1) (Filling files m2 m3) v2 v3 fills (λ d e a es ad ae runs p. (p, refl)) in
-    let showing = Takes-weaker (Shows time) (Showing time m3 m3) v3 v4 shows (λ d e a es ad ae runs p. (p, refl)) in
-    let from_read = Takes-both (Filling files) (Showing time) m2 m3 m3 v2 v3 v4 filling showing in
-    let from_heard = Takes-both (ForEach (Reads w) 32) (Then (Filling files) (Showing time)) m1 m2 m3 v1 v2 v4 reading from_read in
-    Takes-both (Accepting w) (Then (ForEach (Reads w) 32) (Then (Filling files) (Showing time))) m0 m1 m3 v0 v1 v4 accepting from_heard
+    let m1 = at h1 a0 s1 f0 lines in
+    let m2 = at h1 a0 s1 f1 lines in
+    let reading = Takes-weaker (InTurn (AtSeat (Reads w)) 32 (h0, s0) (h1, s1)) (ForEach (Reads w) 32 m0 m1) v0 v1 reads (λ d e a es ad ae runs p. (p, refl, refl, refl)) in
+    let filling = Takes-weaker (InTurn (Fills files s1) 32 f0 f1) (Filling files m1 m2) v1 v2 fills (λ d e a es ad ae runs p. (p, refl)) in
+    Takes-both (ForEach (Reads w) 32) (Filling files) m0 m1 m2 v0 v1 v2 reading filling
 
-pub up-to-frame-told : {H C S : Type 0} (w : Ways H C) (files : Files S) (time : ℕ) (h0 h1 h2 : H) (a0 a1 : ℕ) (s0 s1 s2 : List (Option (Seat C))) (f0 f1 : S)
-    (lines : List PointerLine) (v0 v1 v2 v3 v4 : SessionView)
-    (x y z i j : Option (List ℕ))
+read-filled-pass : {H C S : Type 0} (w : Ways H C) (files : Files S) (from to : Serving H C S) → PassesAll has_no_line (Then (ForEach (Reads w) 32) (Filling files) from to)
+read-filled-pass w files from to start end acts events p =
+    both-pass has_no_line acts p.first p.next p.acts_are (all-reads-pass w 32 _ _ start p.moment p.first p.early p.does.0)
+    (all-fills-pass files _ 32 _ _ p.moment end p.next p.late p.follows.0)
+
+pub taken-in : {H C S : Type 0} (w : Ways H C) (files : Files S) (h0 h1 h2 : H) (a0 a1 : ℕ) (s0 s1 s2 : List (Option (Seat C))) (f0 f1 : S) (lines : List PointerLine)
+    (v0 v1 v2 : SessionView) (x y : Option (List ℕ))
     → Reports (AcceptsAll w (h0, record { accepted = a0; seats = s0 }) (h1, record { accepted = a1; seats = s1 })) v0 v1 x y
-    → Takes (InTurn (AtSeat (Reads w)) 32 (h1, s1) (h2, s2)) v1 v2 → Takes (InTurn (Fills files s2) 32 f0 f1) v2 v3 → Tells (Shows time) v3 v4 y z i j
-    → Tells (UpToFrame w files time (serving h0 (record { accepted = a0; seats = s0 }) f0 lines) (serving h2 (record { accepted = a1; seats = s2 }) f1 lines)) v0 v4 x z i j
+    → Takes (Then (ForEach (Reads w) 32) (Filling files) (serving h1 (record { accepted = a1; seats = s1 }) f0 lines) (serving h2 (record { accepted = a1; seats = s2 }) f1 lines)) v1 v2
+    → Reports (TakesIn w files (serving h0 (record { accepted = a0; seats = s0 }) f0 lines) (serving h2 (record { accepted = a1; seats = s2 }) f1 lines)) v0 v2 x y
 unfolding at
-up-to-frame-told w files time h0 h1 h2 a0 a1 s0 s1 s2 f0 f1 lines v0 v1 v2 v3 v4 x y z i j accepts reads fills shows =
+taken-in w files h0 h1 h2 a0 a1 s0 s1 s2 f0 f1 lines v0 v1 v2 x y accepts takes =
     let m0 = at h0 a0 s0 f0 lines in
     let m1 = at h1 a1 s1 f0 lines in
-    let m2 = at h2 a1 s2 f0 lines in
-    let m3 = at h2 a1 s2 f1 lines in
-    let told_heard = Tells-unseen (AcceptsAll w (h0, record { accepted = a0; seats = s0 }) (h1, record { accepted = a1; seats = s1 })) v0 v1 x y i (accepts-pass w _ _) accepts in
-    let told_read = Tells-quiet (InTurn (AtSeat (Reads w)) 32 (h1, s1) (h2, s2)) v1 v2 y i (all-reads-pass w 32 _ _) reads in
-    let told_filled = Tells-quiet (InTurn (Fills files s2) 32 f0 f1) v2 v3 y i (all-fills-pass files s2 32 _ _) fills in
-    let accepting = Tells-weaker (AcceptsAll w (h0, record { accepted = a0; seats = s0 }) (h1, record { accepted = a1; seats = s1 })) (Accepting w m0 m1) v0 v1 x y i i
-    told_heard (λ d e a es ad ae runs p. (p, refl, refl)) in
-    let reading = Tells-weaker (InTurn (AtSeat (Reads w)) 32 (h1, s1) (h2, s2)) (ForEach (Reads w) 32 m1 m2) v1 v2 y y i i told_read (λ d e a es ad ae runs p. (p, refl, refl, refl)) in
-    let filling = Tells-weaker (InTurn (Fills files s2) 32 f0 f1) (Filling files m2 m3) v2 v3 y y i i told_filled (λ d e a es ad ae runs p. (p, refl)) in
-    let showing = Tells-weaker (Shows time) (Showing time m3 m3) v3 v4 y z i j shows (λ d e a es ad ae runs p. (p, refl)) in
-    let from_read = Tells-both (Filling files) (Showing time) m2 m3 m3 v2 v3 v4 y y z i i j filling showing in
-    let from_heard = Tells-both (ForEach (Reads w) 32) (Then (Filling files) (Showing time)) m1 m2 m3 v1 v2 v4 y y z i i j reading from_read in
-    Tells-both (Accepting w) (Then (ForEach (Reads w) 32) (Then (Filling files) (Showing time))) m0 m1 m3 v0 v1 v4 x y z i i j accepting from_heard
+    let m2 = at h2 a1 s2 f1 lines in
+    let accepting = Reports-weaker (AcceptsAll w (h0, record { accepted = a0; seats = s0 }) (h1, record { accepted = a1; seats = s1 })) (Accepting w m0 m1) v0 v1 x y
+    accepts (λ d e a es ad ae runs p. (p, refl, refl)) in
+    let told = Reports-quiet (Then (ForEach (Reads w) 32) (Filling files) m1 m2) v1 v2 y (read-filled-pass w files m1 m2) takes in
+    Reports-both (Accepting w) (Then (ForEach (Reads w) 32) (Filling files)) m0 m1 m2 v0 v1 v2 x y y accepting told
 
--- ---- from the frame on
-
-pub whole : {H C S : Type 0} (w : Ways H C) (files : Files S) (time n : ℕ) (from : Serving H C S) (h2 h3 h4 : H) (a1 : ℕ) (s2 s3 s4 : List (Option (Seat C))) (f1 : S)
-    (lines : List PointerLine) (v0 v4 v5 v6 : SessionView)
-    → Takes (UpToFrame w files time from (serving h2 (record { accepted = a1; seats = s2 }) f1 lines)) v0 v4
-    → Takes (InTurn (AtSeat (Writes w)) 32 (h2, s2) (h3, s3)) v4 v5 → Takes (InTurn (AtSeat (Closes w)) n (h3, s3) (h4, s4)) v5 v6
-    → Takes (Serves w files time n from (serving h4 (record { accepted = a1; seats = s4 }) f1 lines)) v0 v6
+pub begun-in : {H C S : Type 0} (w : Ways H C) (h0 h1 : H) (a0 a1 : ℕ) (s0 s1 : List (Option (Seat C))) (f0 : S) (lines : List PointerLine) (v0 v1 : SessionView)
+    → Takes (BeginsAccepting w (h0, record { accepted = a0; seats = s0 }) (h1, record { accepted = a1; seats = s1 })) v0 v1
+    → Takes (StartsIn w (serving h0 (record { accepted = a0; seats = s0 }) f0 lines) (serving h1 (record { accepted = a1; seats = s1 }) f0 lines)) v0 v1
 unfolding at
-whole w files time n from h2 h3 h4 a1 s2 s3 s4 f1 lines v0 v4 v5 v6 shown writes closes =
-    let m3 = at h2 a1 s2 f1 lines in
-    let m4 = at h3 a1 s3 f1 lines in
-    let m5 = at h4 a1 s4 f1 lines in
-    let writing = Takes-weaker (InTurn (AtSeat (Writes w)) 32 (h2, s2) (h3, s3)) (ForEach (Writes w) 32 m3 m4) v4 v5 writes (λ d e a es ad ae runs p. (p, refl, refl, refl)) in
-    let closing = Takes-weaker (InTurn (AtSeat (Closes w)) n (h3, s3) (h4, s4)) (ForEach (Closes w) n m4 m5) v5 v6 closes (λ d e a es ad ae runs p. (p, refl, refl, refl)) in
-    let from_shown = Takes-both (ForEach (Writes w) 32) (ForEach (Closes w) n) m3 m4 m5 v4 v5 v6 writing closing in
-    Takes-both (UpToFrame w files time) (FromFrame w n) from m3 m5 v0 v4 v6 shown from_shown
+begun-in w h0 h1 a0 a1 s0 s1 f0 lines v0 v1 takes =
+    Takes-weaker (BeginsAccepting w (h0, record { accepted = a0; seats = s0 }) (h1, record { accepted = a1; seats = s1 })) (StartsIn w (at h0 a0 s0 f0 lines) (at h1 a1 s1 f0 lines)) v0 v1
+    takes (λ d e a es ad ae runs p. (p, refl, refl))
 
-pub whole-told : {H C S : Type 0} (w : Ways H C) (files : Files S) (time : ℕ) (from : Serving H C S) (h2 h3 h4 : H) (a1 : ℕ) (s2 s3 s4 : List (Option (Seat C))) (f1 : S)
-    (lines : List PointerLine) (v0 v4 v5 v6 : SessionView)
-    (x y z i j : Option (List ℕ))
-    → Tells (UpToFrame w files time from (serving h2 (record { accepted = a1; seats = s2 }) f1 lines)) v0 v4 x y i j
-    → Takes (InTurn (AtSeat (Writes w)) 32 (h2, s2) (h3, s3)) v4 v5 → Reports (InTurn (AtSeat (Closes w)) 32 (h3, s3) (h4, s4)) v5 v6 y z
-    → Tells (Serves w files time 32 from (serving h4 (record { accepted = a1; seats = s4 }) f1 lines)) v0 v6 x z i j
+-- no frame is shown meanwhile
+pub takes-in-pass : {H C S : Type 0} (w : Ways H C) (files : Files S) (from to : Serving H C S) → PassesAll has_no_picture (TakesIn w files from to)
+takes-in-pass w files from to start end acts events p =
+    let rest = p.follows in
+    both-pass has_no_picture acts p.first p.next p.acts_are (accepts-pass w _ _ start p.moment p.first p.early p.does.0)
+    (both-pass has_no_picture p.next rest.first rest.next rest.acts_are
+    (unseen _ (all-reads-pass w 32 _ _) p.moment rest.moment rest.first rest.early rest.does.0)
+    (unseen _ (all-fills-pass files _ 32 _ _) rest.moment end rest.next rest.late rest.follows.0))
+
+-- ---- what waits for them goes out
+
+pub given-out : {H C S : Type 0} (w : Ways H C) (n : ℕ) (h0 h1 h2 : H) (a0 : ℕ) (s0 s1 s2 : List (Option (Seat C))) (f0 : S) (lines : List PointerLine)
+    (v0 v1 v2 : SessionView)
+    → Takes (InTurn (AtSeat (Writes w)) 32 (h0, s0) (h1, s1)) v0 v1 → Takes (InTurn (AtSeat (Closes w)) n (h1, s1) (h2, s2)) v1 v2
+    → Takes (FromFrame w n (serving h0 (record { accepted = a0; seats = s0 }) f0 lines) (serving h2 (record { accepted = a0; seats = s2 }) f0 lines)) v0 v2
 unfolding at
-whole-told w files time from h2 h3 h4 a1 s2 s3 s4 f1 lines v0 v4 v5 v6 x y z i j shown writes closes =
-    let m3 = at h2 a1 s2 f1 lines in
-    let m4 = at h3 a1 s3 f1 lines in
-    let m5 = at h4 a1 s4 f1 lines in
-    let told_written = Tells-quiet (InTurn (AtSeat (Writes w)) 32 (h2, s2) (h3, s3)) v4 v5 y j (all-writes-pass w 32 _ _) writes in
-    let told_closed = Tells-unseen (InTurn (AtSeat (Closes w)) 32 (h3, s3) (h4, s4)) v5 v6 y z j (all-closes-pass w 32 _ _) closes in
-    let writing = Tells-weaker (InTurn (AtSeat (Writes w)) 32 (h2, s2) (h3, s3)) (ForEach (Writes w) 32 m3 m4) v4 v5 y y j j told_written (λ d e a es ad ae runs p. (p, refl, refl, refl)) in
-    let closing = Tells-weaker (InTurn (AtSeat (Closes w)) 32 (h3, s3) (h4, s4)) (ForEach (Closes w) 32 m4 m5) v5 v6 y z j j told_closed (λ d e a es ad ae runs p. (p, refl, refl, refl)) in
-    let from_shown = Tells-both (ForEach (Writes w) 32) (ForEach (Closes w) 32) m3 m4 m5 v4 v5 v6 y y z j j j writing closing in
-    Tells-both (UpToFrame w files time) (FromFrame w 32) from m3 m5 v0 v4 v6 x y z i j j shown from_shown
+given-out w n h0 h1 h2 a0 s0 s1 s2 f0 lines v0 v1 v2 writes closes =
+    let m0 = at h0 a0 s0 f0 lines in
+    let m1 = at h1 a0 s1 f0 lines in
+    let m2 = at h2 a0 s2 f0 lines in
+    let writing = Takes-weaker (InTurn (AtSeat (Writes w)) 32 (h0, s0) (h1, s1)) (ForEach (Writes w) 32 m0 m1) v0 v1 writes (λ d e a es ad ae runs p. (p, refl, refl, refl)) in
+    let closing = Takes-weaker (InTurn (AtSeat (Closes w)) n (h1, s1) (h2, s2)) (ForEach (Closes w) n m1 m2) v1 v2 closes (λ d e a es ad ae runs p. (p, refl, refl, refl)) in
+    Takes-both (ForEach (Writes w) 32) (ForEach (Closes w) n) m0 m1 m2 v0 v1 v2 writing closing
+
+pub given-out-told : {H C S : Type 0} (w : Ways H C) (h0 h1 h2 : H) (a0 : ℕ) (s0 s1 s2 : List (Option (Seat C))) (f0 : S) (lines : List PointerLine)
+    (v0 v1 v2 : SessionView) (x y : Option (List ℕ))
+    → Takes (InTurn (AtSeat (Writes w)) 32 (h0, s0) (h1, s1)) v0 v1 → Reports (InTurn (AtSeat (Closes w)) 32 (h1, s1) (h2, s2)) v1 v2 x y
+    → Reports (FromFrame w 32 (serving h0 (record { accepted = a0; seats = s0 }) f0 lines) (serving h2 (record { accepted = a0; seats = s2 }) f0 lines)) v0 v2 x y
+unfolding at
+given-out-told w h0 h1 h2 a0 s0 s1 s2 f0 lines v0 v1 v2 x y writes closes =
+    let m0 = at h0 a0 s0 f0 lines in
+    let m1 = at h1 a0 s1 f0 lines in
+    let m2 = at h2 a0 s2 f0 lines in
+    let told_written = Reports-quiet (InTurn (AtSeat (Writes w)) 32 (h0, s0) (h1, s1)) v0 v1 x (all-writes-pass w 32 _ _) writes in
+    let writing = Reports-weaker (InTurn (AtSeat (Writes w)) 32 (h0, s0) (h1, s1)) (ForEach (Writes w) 32 m0 m1) v0 v1 x x told_written (λ d e a es ad ae runs p. (p, refl, refl, refl)) in
+    let closing = Reports-weaker (InTurn (AtSeat (Closes w)) 32 (h1, s1) (h2, s2)) (ForEach (Closes w) 32 m1 m2) v1 v2 x y closes (λ d e a es ad ae runs p. (p, refl, refl, refl)) in
+    Reports-both (ForEach (Writes w) 32) (ForEach (Closes w) 32) m0 m1 m2 v0 v1 v2 x x y writing closing
+
+-- no frame is shown meanwhile
+pub from-frame-pass : {H C S : Type 0} (w : Ways H C) (n : ℕ) (from to : Serving H C S) → PassesAll has_no_picture (FromFrame w n from to)
+from-frame-pass w n from to start end acts events p =
+    both-pass has_no_picture acts p.first p.next p.acts_are
+    (unseen _ (all-writes-pass w 32 _ _) start p.moment p.first p.early p.does.0)
+    (all-closes-pass w n _ _ p.moment end p.next p.late p.follows.0)
+
+-- how far that came, told of or not
+pub gives-begun : {T E H C S : Type 0} (w : Ways H C) (r : Result T E) (from to : Serving H C S) (old new : SessionView) (x y : Option (List ℕ))
+    → OnOk r (Reports (FromFrame w 32 from to) old new x y) → OnErr r ((n : ℕ) × (n ≤ 32) × Takes (FromFrame w n from to) old new)
+    → (n : ℕ) × (n ≤ 32) × Takes (FromFrame w n from to) old new
+gives-begun w (Ok x) from to old new _ _ told begun = (32, omega arith, Takes-told (FromFrame w 32 from to) old new _ _ told)
+gives-begun w (Err e) from to old new _ _ told begun = begun
+
+-- ---- the clients are served, with a frame
+
+pub shown-to : {H C S : Type 0} (In : Intake H C S) (time : ℕ) (from mid : Serving H C S) (v0 v1 v2 : SessionView)
+    → Takes (In from mid) v0 v1 → Takes (Shows time) v1 v2 → Takes (UpToFrame In time from mid) v0 v2
+shown-to In time from mid v0 v1 v2 takes shows =
+    Takes-both In (Showing time) from mid mid v0 v1 v2 takes (Takes-weaker (Shows time) (Showing time mid mid) v1 v2 shows (λ d e a es ad ae runs p. (p, refl)))
+
+pub served-told : {H C S : Type 0} (In : Intake H C S) (w : Ways H C) (time : ℕ) (from mid to : Serving H C S) (v0 v1 v2 v3 : SessionView) (x y z u i j : Option (List ℕ))
+    → PassesAll has_no_picture (In from mid) → Reports (In from mid) v0 v1 x y → Tells (Shows time) v1 v2 y z i j → Reports (FromFrame w 32 mid to) v2 v3 z u
+    → Tells (Serves In w time 32 from to) v0 v3 x u i j
+served-told In w time from mid to v0 v1 v2 v3 x y z u i j pass takes shows gives =
+    let taking = Tells-unseen (In from mid) v0 v1 x y i pass takes in
+    let showing = Tells-weaker (Shows time) (Showing time mid mid) v1 v2 y z i j shows (λ d e a es ad ae runs p. (p, refl)) in
+    let giving = Tells-unseen (FromFrame w 32 mid to) v2 v3 z u j (from-frame-pass w 32 mid to) gives in
+    Tells-both (UpToFrame In time) (FromFrame w 32) from mid to v0 v2 v3 x z u i j j (Tells-both In (Showing time) from mid mid v0 v1 v2 x y z i i j taking showing) giving
 
 -- ---- the clients begin to be served so
 
-pub begun-accepting : {H C S : Type 0} (w : Ways H C) (files : Files S) (time : ℕ) (h0 h1 : H) (a0 a1 : ℕ) (s0 s1 : List (Option (Seat C))) (f0 : S) (lines : List PointerLine) (v0 v1 : SessionView)
-    → Takes (BeginsAccepting w (h0, record { accepted = a0; seats = s0 }) (h1, record { accepted = a1; seats = s1 })) v0 v1
-    → Takes (StartsServing w files time (serving h0 (record { accepted = a0; seats = s0 }) f0 lines) (serving h1 (record { accepted = a1; seats = s1 }) f0 lines)) v0 v1
-unfolding at
-begun-accepting w files time h0 h1 a0 a1 s0 s1 f0 lines v0 v1 takes =
-    Takes-weaker (BeginsAccepting w (h0, record { accepted = a0; seats = s0 }) (h1, record { accepted = a1; seats = s1 })) (StartsServing w files time (at h0 a0 s0 f0 lines) (at h1 a1 s1 f0 lines)) v0 v1
-    takes (λ d e a es ad ae runs p. inl (p, refl, refl))
+pub begun-early : {H C S : Type 0} (In : Intake H C S) (w : Ways H C) (time : ℕ) (from to : Serving H C S) (v0 v1 : SessionView)
+    → Takes (StartsIn w from to) v0 v1 → Takes (StartsServing In w time from to) v0 v1
+begun-early In w time from to v0 v1 takes =
+    Takes-weaker (StartsIn w from to) (StartsServing In w time from to) v0 v1 takes (λ d e a es ad ae runs p. inl p)
 
-pub begun-frame : {H C S : Type 0} (w : Ways H C) (files : Files S) (time : ℕ) (from to : Serving H C S) (v0 v1 : SessionView)
-    → Takes (UpToFrame w files time from to) v0 v1 → Takes (StartsServing w files time from to) v0 v1
-begun-frame w files time from to v0 v1 takes =
-    Takes-weaker (UpToFrame w files time from to) (StartsServing w files time from to) v0 v1 takes (λ d e a es ad ae runs p. inr (inl p))
+pub begun-frame : {H C S : Type 0} (In : Intake H C S) (w : Ways H C) (time : ℕ) (from to : Serving H C S) (v0 v1 : SessionView)
+    → Takes (UpToFrame In time from to) v0 v1 → Takes (StartsServing In w time from to) v0 v1
+begun-frame In w time from to v0 v1 takes =
+    Takes-weaker (UpToFrame In time from to) (StartsServing In w time from to) v0 v1 takes (λ d e a es ad ae runs p. inr (inl p))
 
-pub begun-closing : {H C S : Type 0} (w : Ways H C) (files : Files S) (time n : ℕ) (from to : Serving H C S) (v0 v1 : SessionView) → n ≤ 32
-    → Takes (Serves w files time n from to) v0 v1 → Takes (StartsServing w files time from to) v0 v1
-begun-closing w files time n from to v0 v1 within takes =
-    Takes-weaker (Serves w files time n from to) (StartsServing w files time from to) v0 v1 takes (λ d e a es ad ae runs p. inr (inr (n, within, p)))
+pub begun-closing : {H C S : Type 0} (In : Intake H C S) (w : Ways H C) (time n : ℕ) (from mid to : Serving H C S) (v0 v1 v2 : SessionView) → n ≤ 32
+    → Takes (UpToFrame In time from mid) v0 v1 → Takes (FromFrame w n mid to) v1 v2 → Takes (StartsServing In w time from to) v0 v2
+begun-closing In w time n from mid to v0 v1 v2 within shown gives =
+    Takes-weaker (Serves In w time n from to) (StartsServing In w time from to) v0 v2 (Takes-both (UpToFrame In time) (FromFrame w n) from mid to v0 v1 v2 shown gives)
+    (λ d e a es ad ae runs p. inr (inr (n, within, p)))
+
+pub between-early : {H C S : Type 0} (In : Intake H C S) (w : Ways H C) (from to : Serving H C S) (v0 v1 : SessionView)
+    → Takes (StartsIn w from to) v0 v1 → Takes (StartsBetween In w from to) v0 v1
+between-early In w from to v0 v1 takes = Takes-weaker (StartsIn w from to) (StartsBetween In w from to) v0 v1 takes (λ d e a es ad ae runs p. inl p)
+
+pub between-begun : {H C S : Type 0} (In : Intake H C S) (w : Ways H C) (from mid to : Serving H C S) (v0 v1 v2 : SessionView)
+    → Takes (In from mid) v0 v1 → (n : ℕ) × (n ≤ 32) × Takes (FromFrame w n mid to) v1 v2 → Takes (StartsBetween In w from to) v0 v2
+between-begun In w from mid to v0 v1 v2 takes (n, within, gives) =
+    Takes-weaker (ServesBetween In w n from to) (StartsBetween In w from to) v0 v2 (Takes-both In (FromFrame w n) from mid to v0 v1 v2 takes gives)
+    (λ d e a es ad ae runs p. inr (n, within, p))
 
 -- ---- first the pointer goes where it is to
 
-pub turn-begun : {H C S : Type 0} (w : Ways H C) (files : Files S) (time : ℕ) (hub : H) (seated : Seated (Seat C)) (side : S) (lines : List PointerLine) (to : Serving H C S) (v0 v1 v2 : SessionView)
-    → Takes (Points (due_at time lines)) v0 v1 → Takes (StartsServing w files time (serving hub seated side (left_at time lines)) to) v1 v2
-    → Takes (StartsTurn w files time (serving hub seated side lines) to) v0 v2
-turn-begun w files time hub seated side lines to v0 v1 v2 points starts =
+pub turn-begun : {H C S : Type 0} (In : Intake H C S) (w : Ways H C) (time : ℕ) (hub : H) (seated : Seated (Seat C)) (side : S) (lines : List PointerLine) (to : Serving H C S) (v0 v1 v2 : SessionView)
+    → Takes (Points (due_at time lines)) v0 v1 → Takes (StartsServing In w time (serving hub seated side (left_at time lines)) to) v1 v2
+    → Takes (StartsTurnBy In w time (serving hub seated side lines) to) v0 v2
+turn-begun In w time hub seated side lines to v0 v1 v2 points starts =
     let from = serving hub seated side lines in
     let mid = serving hub seated side (left_at time lines) in
     let pointing = Takes-weaker (Points (due_at time lines)) (Pointing time from mid) v0 v1 points (λ d e a es ad ae runs p. (p, refl)) in
-    Takes-both (Pointing time) (StartsServing w files time) from mid to v0 v1 v2 pointing starts
+    Takes-both (Pointing time) (StartsServing In w time) from mid to v0 v1 v2 pointing starts
 
-pub turn-told : {H C S : Type 0} (w : Ways H C) (files : Files S) (time : ℕ) (hub : H) (seated : Seated (Seat C)) (side : S) (lines : List PointerLine) (to : Serving H C S) (v0 v1 v2 : SessionView)
-    (x y i j : Option (List ℕ)) → Takes (Points (due_at time lines)) v0 v1 → Tells (Serves w files time 32 (serving hub seated side (left_at time lines)) to) v1 v2 x y i j
-    → Tells (IsTurn w files time (serving hub seated side lines) to) v0 v2 x y i j
-turn-told w files time hub seated side lines to v0 v1 v2 x y i j points serves =
+pub turn-told : {H C S : Type 0} (In : Intake H C S) (w : Ways H C) (time : ℕ) (hub : H) (seated : Seated (Seat C)) (side : S) (lines : List PointerLine) (to : Serving H C S) (v0 v1 v2 : SessionView)
+    (x y i j : Option (List ℕ)) → Takes (Points (due_at time lines)) v0 v1 → Tells (Serves In w time 32 (serving hub seated side (left_at time lines)) to) v1 v2 x y i j
+    → Tells (IsTurnBy In w time (serving hub seated side lines) to) v0 v2 x y i j
+turn-told In w time hub seated side lines to v0 v1 v2 x y i j points serves =
     let from = serving hub seated side lines in
     let mid = serving hub seated side (left_at time lines) in
     let told_points = Tells-quiet (Points (due_at time lines)) v0 v1 x i (points-pass (due_at time lines)) points in
     let pointing = Tells-weaker (Points (due_at time lines)) (Pointing time from mid) v0 v1 x x i i told_points (λ d e a es ad ae runs p. (p, refl)) in
-    Tells-both (Pointing time) (Serves w files time 32) from mid to v0 v1 v2 x x y i i j pointing serves
+    Tells-both (Pointing time) (Serves In w time 32) from mid to v0 v1 v2 x x y i i j pointing serves

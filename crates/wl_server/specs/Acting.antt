@@ -3,7 +3,6 @@ use Rattle.std.specs.Prelude.{ℕ, zero, suc, ◌≡◌, ◌<◌, pos, Bool, tru
 use Rattle.wl_session.specs.Frame.{color_at}
 use Rattle.spec_desktop.specs.Act.{Act}
 use Rattle.spec_desktop.specs.Desktop.{Desktop}
-use Rattle.spec_desktop.specs.LeftOut.{nothing_left_out}
 use Rattle.spec_desktop.specs.Scratch.{scratch}
 use Rattle.spec_desktop.specs.Stacked.{all_windows}
 use Rattle.wl_session.specs.Agreeing.{Agrees}
@@ -18,7 +17,7 @@ use Rattle.wl_session.specs.View.{SessionView}
 pub record Went (acts : List Act) (old new : SessionView) (d : Desktop) : Type 0 where
   pub desktop : Desktop
   pub events : List Event
-  pub runs : Runs nothing_left_out (moment d old) acts events (moment desktop new)
+  pub runs : Runs (moment d old) acts events (moment desktop new)
   pub apart : AreApart events
   pub agrees : Agrees new.desk desktop
 
@@ -70,8 +69,8 @@ pub record Then {W : Type 0} (First Next : W → W → Stretch) (from to : W) (s
   pub next : List Act
   pub early : List Event
   pub late : List Event
-  pub leads : Runs nothing_left_out start first early moment
-  pub goes_on : Runs nothing_left_out moment next late end
+  pub leads : Runs start first early moment
+  pub goes_on : Runs moment next late end
   pub does : First from mid start first early moment
   pub follows : Next mid to moment next late end
   pub acts_are : acts ≡ first ++ next

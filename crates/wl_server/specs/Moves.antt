@@ -16,10 +16,10 @@ Receives reads faults hub conn buf Later next_hub next_conn = reads hub conn Non
 Receives reads faults hub conn buf Gone next_hub next_conn = (reads hub conn (Some []) next_hub next_conn × (faults next_hub ≡ faults hub))
     ⊎ Rose (faults hub) (faults next_hub)
 
--- writes took the first of these bytes, so many in all, the last of them n
+-- Writes took the first of these bytes, so many in all: each at least one, and the last of them n.
 pub data Wrote {H C : Type 0} (writes : Moves H C) (hub : H) (conn : C) (bytes : List ℕ) : ℕ → H → C → Type 0 where
   none : Wrote writes hub conn bytes 0 hub conn
-  more : {sent : ℕ} {mid_hub next_hub : H} {mid_conn next_conn : C} (n : ℕ) → Wrote writes hub conn bytes sent mid_hub mid_conn
+  more : {sent : ℕ} {mid_hub next_hub : H} {mid_conn next_conn : C} (n : ℕ) → Wrote writes hub conn bytes sent mid_hub mid_conn → 0 < n
       → writes mid_hub mid_conn (Some (take n (drop sent bytes))) next_hub next_conn
       → Wrote writes hub conn bytes (sent + n) next_hub next_conn
 

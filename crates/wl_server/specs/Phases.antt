@@ -1,11 +1,10 @@
 -- The phases of a turn: what each does to what the server works on, and which acts that is.
 use Rattle.std.specs.Prelude.{ℕ, ◌≡◌, ◌<◌, ◌≤◌, ◌+◌, ◌-◌, ◌^◌, ◌⊎◌, ◌||◌, ◌&&◌, Bool, true, false, List, [], ◌∷◌, ◌++◌, length, map}
-use Rattle.std.specs.Prelude.{Option, Some, None, Result, Ok, Err, decimal, codes}
+use Rattle.std.specs.Prelude.{Option, Some, None, Result, Ok, Err}
 use Rattle.wl_server.specs.Faults.{Rose}
 use Rattle.wl_server.specs.Moves.{Delivers}
-use Rattle.spec_desktop.specs.Act.{Act, Connect, Feed, Store, Leave, Tick, Send, Close, peer_at, status_of, store_size_of, unsent_of}
+use Rattle.spec_desktop.specs.Act.{Act, Connect, Feed, Leave, Tick, Send, Close, peer_at, status_of, store_size_of, unsent_of}
 use Rattle.spec_desktop.specs.Happenings.{Single}
-use Rattle.spec_desktop.specs.LeftOut.{nothing_left_out}
 use Rattle.spec_desktop.specs.declared.answers.ConnectError.{ConnectError}
 use Rattle.spec_desktop.specs.declared.answers.Done.TheVariants as gave
 use Rattle.spec_desktop.specs.declared.answers.Fed.{Fed}
@@ -17,6 +16,8 @@ use Rattle.wl_session.specs.Events.{Event, Moment}
 use Rattle.wl_session.specs.NextStore.{next_store_of}
 use Rattle.wl_server.specs.declared.seat.Seat.{Seat}
 use Rattle.wl_server.specs.Acting.{Idle, InTurn, Stretch, Then}
+use Rattle.wl_server.specs.Filling.{IsPiece, Opens, PutsPart}
+use Rattle.wl_server.specs.Ranges.{FillsListed, list_name}
 use Rattle.wl_server.specs.Due.{due_at, left_at, asked_of}
 use Rattle.wl_server.specs.Seats.{Seated, seat_of, with_seat}
 use Rattle.wl_server.specs.Ways.{Serving, Ways}
@@ -35,7 +36,7 @@ Line H C = H × Seated (Seat C)
 
 -- a connection that nothing came from yet
 abbrev pub new_seat : {C : Type 0} → C → ℕ → Seat C
-new_seat conn number = record { conn = conn; number = number; has_sent = false; has_failed = false }
+new_seat conn number = record { conn = conn; number = number; has_sent = false; has_failed = false; debt = 0; piece = 8 }
 
 -- A client that connects gets the connection, with its place among those that were accepted; where no client can connect, the connection is
 -- closed at once.
@@ -87,10 +88,6 @@ AcceptsAll w from to start acts events end =
 abbrev pub Link : Type 0 → Type 0 → Type 0
 Link H C = H × Seat C
 
--- a read gives 1 to 4,096 bytes
-abbrev pub IsPiece : List ℕ → Type 0
-IsPiece piece = (0 < length piece) × (length piece ≤ 4096)
-
 -- One read gives a piece.
 pub record Gets {H C : Type 0} (w : Ways H C) (piece : List ℕ) (from to : Link H C) : Type 0 where
   pub conn : C
@@ -122,19 +119,28 @@ pub data GetsAll {H C : Type 0} (w : Ways H C) (from : Link H C) : List (List �
   more : {pieces : List (List ℕ)} {mid to : Link H C} (piece : List ℕ) → GetsAll w from pieces mid → Gets w piece mid to
       → GetsAll w from (pieces ++ piece ∷ []) to
 
--- why it is read no more: it was read 16 times, or a read gave none
-abbrev pub StopsReading : {H C : Type 0} → Ways H C → ℕ → ℕ → List Act → Link H C → Link H C → Type 0
-StopsReading w client reads acts from to =
-    ((reads ≡ 16) × (acts ≡ []) × (to ≡ from)) ⊎ ((reads < 16) × GetsNone w client acts from to)
+-- why it is read no more: it was read as often as it is to be, or a read gave none
+abbrev pub StopsReading : {H C : Type 0} → (ℕ → Type 0) → Ways H C → ℕ → ℕ → List Act → Link H C → Link H C → Type 0
+StopsReading IsOver w client reads acts from to =
+    (IsOver reads × (acts ≡ []) × (to ≡ from)) ⊎ ((reads < 16) × GetsNone w client acts from to)
 
--- A client is read until a read gives none, 16 times at most: what each read gave is fed, and nothing else; then the client may be gone.
-pub record ReadsClient {H C : Type 0} (w : Ways H C) (client : ℕ) (from to : Link H C) (start : Moment) (acts : List Act) (events : List Event) (end : Moment) : Type 0 where
+-- A client is read until a read gives none, or as often as it is to be: what each read gave is fed, and nothing else; then the client may be
+-- gone.
+pub record ReadsUntil {H C : Type 0} (IsOver : ℕ → Type 0) (w : Ways H C) (client : ℕ) (from to : Link H C) (start : Moment) (acts : List Act) (events : List Event) (end : Moment) : Type 0 where
   pub pieces : List (List ℕ)
   pub last : List Act
   pub mid : Link H C
   pub gets : GetsAll w (from.0, record from.1 { has_sent = false }) pieces mid
-  pub stops : StopsReading w client (length pieces) last mid to
+  pub stops : StopsReading IsOver w client (length pieces) last mid to
   pub acts_are : acts ≡ map (Feed client) pieces ++ last
+
+-- it was read 16 times
+abbrev pub IsSixteen : ℕ → Type 0
+IsSixteen reads = reads ≡ 16
+
+-- A client is read until a read gives none, 16 times at most.
+abbrev pub ReadsClient : {H C : Type 0} → Ways H C → ℕ → Link H C → Link H C → Stretch
+ReadsClient w client = ReadsUntil IsSixteen w client
 
 -- the hub, and what a client has, if it has anything
 abbrev pub Place : Type 0 → Type 0 → Type 0
@@ -150,60 +156,10 @@ Reads w client from to start acts events end = IfSeated (ReadsClient w client) f
 
 -- ---- a client's stores get their side files
 
--- The name of a side file: the number of the client's connection, a point, and the store's number.
-abbrev pub side_name : ℕ → ℕ → List ℕ
-side_name number store = decimal number ++ codes "." ++ decimal store
-
--- how many bytes pieces are together
-abbrev pub total : List (List ℕ) → ℕ
-total [] = 0
-total (piece ∷ pieces) = length piece + total pieces
-
--- reads of the open file gave these, one after another
-pub data Gave {S : Type 0} (files : Files S) (from : S) : List (List ℕ) → S → Type 0 where
-  none : Gave files from [] from
-  more : {pieces : List (List ℕ)} {mid to : S} (piece : List ℕ) → Gave files from pieces mid → IsPiece piece → files.gives mid piece to
-      → Gave files from (pieces ++ piece ∷ []) to
-
--- why no more is read: the store is full, the file ends, or a read failed
-abbrev pub EndsGiving : {S : Type 0} → Files S → ℕ → ℕ → S → S → Type 0
-EndsGiving files size at from to =
-    ((at ≡ size) × (to ≡ from)) ⊎ ((at < size) × (files.gives from [] to ⊎ Rose (files.faults from) (files.faults to)))
-
--- pieces are put into a store, each behind the one before
-abbrev pub puts_from : ℕ → ℕ → ℕ → List (List ℕ) → List Act
-puts_from client store at [] = []
-puts_from client store at (piece ∷ pieces) = Store client store at piece ∷ puts_from client store (at + length piece) pieces
-
--- One read of the open file gave a piece of so many bytes, which is put there; or none, since the file ends or the read failed.
-abbrev pub PutsOnce : {S : Type 0} → Files S → ℕ → ℕ → ℕ → ℕ → S → S → Stretch
-PutsOnce files client store at count from to start acts events end =
-    ((count ≡ 0) × (acts ≡ []) × (files.gives from [] to ⊎ Rose (files.faults from) (files.faults to)))
-    ⊎ ((piece : List ℕ) × (length piece ≡ count) × IsPiece piece × files.gives from piece to × (acts ≡ Store client store at piece ∷ []))
-
--- The open file is put into a store of this size, from its start on, up to the end of either.
-pub record PutsFile {S : Type 0} (files : Files S) (client store size : ℕ) (from to : S) (start : Moment) (acts : List Act) (events : List Event) (end : Moment) : Type 0 where
-  pub pieces : List (List ℕ)
-  pub mid : S
-  pub gave : Gave files from pieces mid
-  pub within : total pieces ≤ size
-  pub ends : EndsGiving files size (total pieces) mid to
-  pub acts_are : acts ≡ puts_from client store 0 pieces
-
--- The side file is opened; where there is none, or that fails, the store stays.
-abbrev pub Opens : {S : Type 0} → Files S → List ℕ → Bool → S → S → Type 0
-Opens files name true from to = files.opens from name true to
-Opens files name false from to = files.opens from name false to ⊎ Rose (files.faults from) (files.faults to)
-
-abbrev pub PutsIf : {S : Type 0} → Bool → Files S → ℕ → ℕ → ℕ → S → S → Stretch
-PutsIf true files client store size from to start acts events end = PutsFile files client store size from to start acts events end
-PutsIf false files client store size from to start acts events end = Idle from to start acts events end
-
 abbrev pub PutsSized : {S : Type 0} → Files S → ℕ → ℕ → ℕ → Option ℕ → S → S → Stretch
 PutsSized files client number store None from to start acts events end = Idle from to start acts events end
-PutsSized {S} files client number store (Some size) from to start acts events end =
-    (is_there : Bool) × (opened : S) × Opens files (side_name number store) is_there from opened
-    × PutsIf is_there files client store size opened to start acts events end
+PutsSized files client number store (Some size) from to start acts events end =
+    PutsPart files client number store 0 0 size from to start acts events end
 
 -- A client's store gets its side file.
 abbrev pub Puts : {S : Type 0} → Files S → ℕ → ℕ → ℕ → S → S → Stretch
@@ -216,14 +172,25 @@ pub data FillsUpTo {S : Type 0} (files : Files S) (client number : ℕ) (from : 
   more : (before : ℕ) (mid to : S) (moment end : Moment) (first next : List Act) (early late : List Event) (store : ℕ)
       → FillsUpTo files client number from start before mid first early moment
       → next_store_of before (peer_at client moment.desktop) ≡ Some store
-      → Runs nothing_left_out start first early moment → Runs nothing_left_out moment next late end
+      → Runs start first early moment → Runs moment next late end
       → Puts files client number store mid to moment next late end
       → FillsUpTo files client number from start store to (first ++ next) (early ++ late) end
 
 -- Each live store of the client gets its side file, in rising number.
-abbrev pub FillsClient : {S : Type 0} → Files S → ℕ → ℕ → S → S → Stretch
-FillsClient files client number from to start acts events end =
+abbrev pub FillsStores : {S : Type 0} → Files S → ℕ → ℕ → S → S → Stretch
+FillsStores files client number from to start acts events end =
     (last : ℕ) × FillsUpTo files client number from start last to acts events end × (next_store_of last (peer_at client end.desktop) ≡ None)
+
+abbrev pub FillsAs : {S : Type 0} → Bool → Files S → ℕ → ℕ → S → S → Stretch
+FillsAs true files client number from to start acts events end = FillsListed files client number from to start acts events end
+FillsAs false files client number from to start acts events end = FillsStores files client number from to start acts events end
+
+-- The client's list of ranges is opened. Where there is one, these ranges of its stores come out of their side files, and nothing else; where
+-- there is none, or that fails, each live store gets its side file.
+abbrev pub FillsClient : {S : Type 0} → Files S → ℕ → ℕ → S → S → Stretch
+FillsClient {S} files client number from to start acts events end =
+    (is_listed : Bool) × (opened : S) × Opens files (list_name number) 0 is_listed from opened
+    × FillsAs is_listed files client number opened to start acts events end
 
 abbrev pub FillsIf : {S : Type 0} → Bool → Files S → ℕ → ℕ → S → S → Stretch
 FillsIf true files client number from to start acts events end = FillsClient files client number from to start acts events end
@@ -342,32 +309,50 @@ Filling files from to start acts events end =
 abbrev pub Showing : {H C S : Type 0} → ℕ → Serving H C S → Serving H C S → Stretch
 Showing time from to start acts events end = Shows time start acts events end × (to ≡ from)
 
--- Up to the frame: connections are accepted, 32 at most; the clients are read, one after another; those that sent bytes get their side files,
--- one after another; and a frame is shown.
-abbrev pub UpToFrame : {H C S : Type 0} → Ways H C → Files S → ℕ → Serving H C S → Serving H C S → Stretch
-UpToFrame w files time = Then (Accepting w) (Then (ForEach (Reads w) 32) (Then (Filling files) (Showing time)))
+-- How clients are taken in.
+abbrev pub Intake : Type 0 → Type 0 → Type 0 → Type 1
+Intake H C S = Serving H C S → Serving H C S → Stretch
+
+-- Connections are accepted, 32 at most; the clients are read, one after another; and those that sent bytes get their side files, one after
+-- another.
+abbrev pub TakesIn : {H C S : Type 0} → Ways H C → Files S → Intake H C S
+TakesIn w files = Then (Accepting w) (Then (ForEach (Reads w) 32) (Filling files))
+
+-- It begins so: connections are accepted, and no more.
+abbrev pub StartsIn : {H C S : Type 0} → Ways H C → Intake H C S
+StartsIn w from to start acts events end =
+    BeginsAccepting w (from.hub, from.connections) (to.hub, to.connections) start acts events end × (to.side ≡ from.side)
+    × (to.waiting ≡ from.waiting)
+
+-- Up to the frame: the clients are taken in so, and a frame is shown.
+abbrev pub UpToFrame : {H C S : Type 0} → Intake H C S → ℕ → Serving H C S → Serving H C S → Stretch
+UpToFrame In time = Then In (Showing time)
 
 -- Then the clients are written to, one after another; and those of the first n that ended are closed, one after another.
 abbrev pub FromFrame : {H C S : Type 0} → Ways H C → ℕ → Serving H C S → Serving H C S → Stretch
 FromFrame w n = Then (ForEach (Writes w) 32) (ForEach (Closes w) n)
 
 -- the clients are served, up to the frame and from it on
-abbrev pub Serves : {H C S : Type 0} → Ways H C → Files S → ℕ → ℕ → Serving H C S → Serving H C S → Stretch
-Serves w files time n = Then (UpToFrame w files time) (FromFrame w n)
+abbrev pub Serves : {H C S : Type 0} → Intake H C S → Ways H C → ℕ → ℕ → Serving H C S → Serving H C S → Stretch
+Serves In w time n = Then (UpToFrame In time) (FromFrame w n)
 
--- First the pointer does what it is to, and then all clients are served.
+-- First the pointer does what it is to, and then all clients are served, taken in so.
+abbrev pub IsTurnBy : {H C S : Type 0} → Intake H C S → Ways H C → ℕ → Serving H C S → Serving H C S → Stretch
+IsTurnBy In w time = Then (Pointing time) (Serves In w time 32)
+
 abbrev pub IsTurn : {H C S : Type 0} → Ways H C → Files S → ℕ → Serving H C S → Serving H C S → Stretch
-IsTurn w files time = Then (Pointing time) (Serves w files time 32)
+IsTurn w files time = IsTurnBy (TakesIn w files) w time
 
--- The clients begin to be served so: connections are accepted, and no more; or it is gone on up to the frame; or until some of the clients are
--- closed.
-abbrev pub StartsServing : {H C S : Type 0} → Ways H C → Files S → ℕ → Serving H C S → Serving H C S → Stretch
-StartsServing w files time from to start acts events end =
-    (BeginsAccepting w (from.hub, from.connections) (to.hub, to.connections) start acts events end × (to.side ≡ from.side)
-    × (to.waiting ≡ from.waiting))
-    ⊎ (UpToFrame w files time from to start acts events end
-    ⊎ ((n : ℕ) × (n ≤ 32) × Serves w files time n from to start acts events end))
+-- The clients begin to be served so: they begin to be taken in; or it is gone on up to the frame; or until some of the clients are closed.
+abbrev pub StartsServing : {H C S : Type 0} → Intake H C S → Ways H C → ℕ → Serving H C S → Serving H C S → Stretch
+StartsServing In w time from to start acts events end =
+    StartsIn w from to start acts events end
+    ⊎ (UpToFrame In time from to start acts events end
+    ⊎ ((n : ℕ) × (n ≤ 32) × Serves In w time n from to start acts events end))
 
 -- A turn begins so: the pointer does what it is to, and the clients begin to be served.
+abbrev pub StartsTurnBy : {H C S : Type 0} → Intake H C S → Ways H C → ℕ → Serving H C S → Serving H C S → Stretch
+StartsTurnBy In w time = Then (Pointing time) (StartsServing In w time)
+
 abbrev pub StartsTurn : {H C S : Type 0} → Ways H C → Files S → ℕ → Serving H C S → Serving H C S → Stretch
-StartsTurn w files time = Then (Pointing time) (StartsServing w files time)
+StartsTurn w files time = StartsTurnBy (TakesIn w files) w time

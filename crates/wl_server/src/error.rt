@@ -10,7 +10,7 @@ use thiserror::Error;
 pub enum TurnError {
     /// The writer of the report or of the images failed.
     #[error("write failed")]
-    Write,
+    Write = 1,
 }
 
 pub(crate) fn write_failed(_error: io::Error) -> TurnError

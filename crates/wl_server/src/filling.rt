@@ -1,19 +1,29 @@
 //! Side files come into the stores of clients that sent bytes.
 
-ghost use Rattle.std.specs.Prelude.{◌≡◌, ◌≤◌, ◌+◌, ◌++◌, length};
+ghost use Rattle.std.specs.Prelude.{◌≡◌, ◌≤◌, ◌<◌, ◌+◌, ◌-◌, ◌^◌, ◌++◌, ℕ, List, [], length, min};
+ghost use Rattle.arrayvec.specs.ArrayVec.{array_vec_len};
+ghost use Rattle.wl_recording.specs.Ranges.{ranges_of};
 ghost use Rattle.wl_recording.specs.Side.{files_of};
 ghost use Rattle.wl_server.specs.Acting.{InTurn, Takes};
-ghost use Rattle.wl_server.specs.Phases.{Fills, FillsClient, FillsSeat, Opens, Puts, PutsFile, PutsOnce, side_name};
+ghost use Rattle.wl_server.specs.Filling.{Opens, PutsFile, PutsOnce, PutsPart, side_name};
+ghost use Rattle.wl_server.specs.Phases.{Fills, FillsClient, FillsSeat, FillsStores, Puts};
+ghost use Rattle.wl_server.specs.Ranges.{FillsListed, GivesOnce, GivesText, PutsRange, PutsRanges, list_name};
 
 use crate::seat::Seat;
-use arrayvec::ArrayString;
+use arrayvec::{ArrayString, ArrayVec};
 use itoa::Buffer;
 use std::alloc::Allocator;
-use wl_recording::{SideFault, SideFiles};
+use wl_recording::{SideFault, SideFiles, StoreRange, next_range};
 use wl_session::{ClientNo, Session, StoreNo};
 
 /// The most bytes that are asked of a file at once.
 const PIECE: usize = 4096;
+
+/// The most lines of a list of ranges that count.
+const LINES: usize = 4096;
+
+/// The most bytes of a list of ranges that are looked at: so many lines of 36 bytes, the most that numbers without leading zeros take.
+const TEXT: usize = 147_456;
 
 /// The most bytes of a side file's name: two numbers, and a point.
 const NAME: usize = 21;
@@ -43,7 +53,7 @@ pub(crate) fn fill_all<A: Allocator + Copy, C: Drop, S: SideFiles>(
 }
 
 /// Fills the stores of a client, if it has a connection and sent bytes.
-fn fill_seat<A: Allocator + Copy, C: Drop, S: SideFiles>(
+pub(crate) fn fill_seat<A: Allocator + Copy, C: Drop, S: SideFiles>(
     session: &mut Session<A>,
     client: ClientNo,
     seat: &Option<Seat<C>>,
@@ -60,7 +70,7 @@ fn fill_seat<A: Allocator + Copy, C: Drop, S: SideFiles>(
     }
 }
 
-/// Fills each live store of a client, in rising number.
+/// Fills the stores of a client: the ranges that its list names, where there is one; else each live store whole.
 fn fill_client<A: Allocator + Copy, S: SideFiles>(
     session: &mut Session<A>,
     client: ClientNo,
@@ -70,6 +80,24 @@ fn fill_client<A: Allocator + Copy, S: SideFiles>(
 )
     requires { length buf.old ≡ 4096 }
     ensures { Takes (FillsClient (files_of S.opens S.gives S.fault_count) client number side.old side.new) session.old session.new }
+{
+    if opens(list_name(number).as_str(), 0, side) {
+        fill_listed(session, client, number, side, buf);
+    } else {
+        fill_stores(session, client, number, side, buf);
+    }
+}
+
+/// Fills each live store of a client whole, in rising number.
+fn fill_stores<A: Allocator + Copy, S: SideFiles>(
+    session: &mut Session<A>,
+    client: ClientNo,
+    number: u32,
+    side: &mut S,
+    buf: &mut [u8],
+)
+    requires { length buf.old ≡ 4096 }
+    ensures { Takes (FillsStores (files_of S.opens S.gives S.fault_count) client number side.old side.new) session.old session.new }
 {
     let mut last = 0;
     while let Some(store) = session.next_store(client, last) {
@@ -94,18 +122,133 @@ fn fill_store<A: Allocator + Copy, S: SideFiles>(
     ensures { Takes (Puts (files_of S.opens S.gives S.fault_count) target.client target.number target.store side.old side.new) session.old session.new }
 {
     if let Some(size) = session.store_size(target.client, target.store) {
-        if opens(target.number, target.store, side) {
-            put_file(session, target, size, side, buf);
+        fill_part(session, target, 0, 0, size, side, buf);
+    }
+}
+
+/// Fills the ranges that the open list names, in its order.
+fn fill_listed<A: Allocator + Copy, S: SideFiles>(
+    session: &mut Session<A>,
+    client: ClientNo,
+    number: u32,
+    side: &mut S,
+    buf: &mut [u8],
+)
+    requires { length buf.old ≡ 4096 }
+    ensures { Takes (FillsListed (files_of S.opens S.gives S.fault_count) client number side.old side.new) session.old session.new }
+{
+    let mut text = ArrayVec::new();
+    read_text(side, &mut text, buf);
+    fill_ranges(session, client, number, text.as_slice(), side, buf);
+}
+
+/// Reads the open file, up to its end or as much as there is room for.
+fn read_text<S: SideFiles>(side: &mut S, text: &mut ArrayVec<u8, TEXT>, buf: &mut [u8])
+    requires buf { length buf.old ≡ 4096 }
+    requires text { text.old.items ≡ [] }
+    ensures { GivesText (files_of S.opens S.gives S.fault_count) text.new.items side.old side.new }
+{
+    while text.len() < TEXT {
+        let room = PIECE.min(TEXT - text.len());
+        let count = read_piece(side, text, &mut buf[..room]);
+        if count == 0 {
+            return;
         }
     }
 }
 
-/// Opens the side file of a store. False where it is missing or fails.
-fn opens<S: SideFiles>(number: u32, store: StoreNo, side: &mut S) -> bool
-    ensures { Opens (files_of S.opens S.gives S.fault_count) (side_name number store) result side.old side.new }
+/// Appends what one read of the open file gives to a text that has room for it, and answers how many bytes. None at the file's end, and where the
+/// read fails.
+fn read_piece<S: SideFiles>(side: &mut S, text: &mut ArrayVec<u8, TEXT>, buf: &mut [u8]) -> usize
+    requires buf { length buf.old ≤ PIECE }
+    requires room { array_vec_len text.old + length buf.old ≤ TEXT }
+    ensures gave { (piece : List ℕ) × (text.new.items ≡ text.old.items ++ piece) × (length piece ≡ result)
+        × GivesOnce (files_of S.opens S.gives S.fault_count) piece side.old side.new }
+    ensures len { array_vec_len text.new ≡ array_vec_len text.old + result }
+    ensures within { result ≤ length buf.old }
 {
-    let name = side_name(number, store);
-    match side.open(name.as_str()) {
+    match side.read(buf) {
+        Ok(0) | Err(SideFault) => 0,
+        Ok(count) => {
+            let Ok(()) = text.try_extend_from_slice(&buf[..count]) else {
+                unreachable!()
+            };
+            count
+        }
+    }
+}
+
+/// Fills the ranges that a text names, in its order.
+fn fill_ranges<A: Allocator + Copy, S: SideFiles>(
+    session: &mut Session<A>,
+    client: ClientNo,
+    number: u32,
+    text: &[u8],
+    side: &mut S,
+    buf: &mut [u8],
+)
+    requires { length buf.old ≡ 4096 }
+    ensures { Takes (PutsRanges (files_of S.opens S.gives S.fault_count) client number (ranges_of text.now) side.old side.new) session.old session.new }
+{
+    let mut text = text;
+    let mut before = None;
+    for taken in 0..LINES {
+        let Some((range, rest)) = next_range(before, text) else {
+            return;
+        };
+        fill_range(session, client, number, range, side, buf);
+        before = Some(range);
+        text = rest;
+    }
+}
+
+/// Fills a range of a store, up to the store's end. Where its file is missing or fails, and where there is no such store, it stays.
+fn fill_range<A: Allocator + Copy, S: SideFiles>(
+    session: &mut Session<A>,
+    client: ClientNo,
+    number: u32,
+    range: StoreRange,
+    side: &mut S,
+    buf: &mut [u8],
+)
+    requires { length buf.old ≡ 4096 }
+    ensures { Takes (PutsRange (files_of S.opens S.gives S.fault_count) client number range side.old side.new) session.old session.new }
+{
+    let target = Target {
+        client,
+        number,
+        store: range.store,
+    };
+    if let Some(size) = session.store_size(client, range.store) {
+        let most = range.len.min(size.saturating_sub(range.at));
+        fill_part(session, target, range.from, range.at, most, side, buf);
+    }
+}
+
+/// Puts at most so many bytes of a store's file, from its byte `from` on, into the store from its byte `at` on.
+fn fill_part<A: Allocator + Copy, S: SideFiles>(
+    session: &mut Session<A>,
+    target: Target,
+    from: u32,
+    at: u32,
+    most: u32,
+    side: &mut S,
+    buf: &mut [u8],
+)
+    requires buf { length buf.old ≡ 4096 }
+    requires room { at + most < 2 ^ 32 }
+    ensures { Takes (PutsPart (files_of S.opens S.gives S.fault_count) target.client target.number target.store from at most side.old side.new) session.old session.new }
+{
+    if opens(side_name(target.number, target.store).as_str(), from, side) {
+        put_file(session, target, at, most, side, buf);
+    }
+}
+
+/// Opens a side file, to read from this byte on. False where it is missing or fails.
+fn opens<S: SideFiles>(name: &str, from: u32, side: &mut S) -> bool
+    ensures { Opens (files_of S.opens S.gives S.fault_count) name.now from result side.old side.new }
+{
+    match side.open(name, from) {
         Ok(is_there) => is_there,
         Err(SideFault) => false,
     }
@@ -123,6 +266,16 @@ fn side_name(number: u32, store: StoreNo) -> ArrayString<NAME>
     name
 }
 
+/// The name of a client's list of ranges.
+fn list_name(number: u32) -> ArrayString<NAME>
+    ensures { result.bytes ≡ list_name number }
+{
+    let mut name = ArrayString::new();
+    push(&mut name, Buffer::new().format(number));
+    push(&mut name, ".r");
+    name
+}
+
 /// Appends a text for which there is room.
 fn push(name: &mut ArrayString<NAME>, text: &str)
     requires { length name.old.bytes + length text.now ≤ 21 }
@@ -133,25 +286,27 @@ fn push(name: &mut ArrayString<NAME>, text: &str)
     };
 }
 
-/// Puts the open file's bytes into a store of this size, up to the end of either.
+/// Puts at most so many of the open file's bytes into a store, from its byte `at` on.
 fn put_file<A: Allocator + Copy, S: SideFiles>(
     session: &mut Session<A>,
     target: Target,
-    size: u32,
+    at: u32,
+    most: u32,
     side: &mut S,
     buf: &mut [u8],
 )
-    requires { length buf.old ≡ 4096 }
-    ensures { Takes (PutsFile (files_of S.opens S.gives S.fault_count) target.client target.store size side.old side.new) session.old session.new }
+    requires buf { length buf.old ≡ 4096 }
+    requires room { at + most < 2 ^ 32 }
+    ensures { Takes (PutsFile (files_of S.opens S.gives S.fault_count) target.client target.store at most side.old side.new) session.old session.new }
 {
-    let mut at = 0;
-    while at < size {
-        let room = PIECE.min((size - at) as usize);
-        let count = put_piece(session, target, at, side, &mut buf[..room]);
+    let mut done = 0;
+    while done < most {
+        let room = PIECE.min((most - done) as usize);
+        let count = put_piece(session, target, at + done, side, &mut buf[..room]);
         if count == 0 {
             return;
         }
-        at += count;
+        done += count;
     }
 }
 

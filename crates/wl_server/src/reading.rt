@@ -1,6 +1,6 @@
 //! What clients sent is read.
 
-ghost use Rattle.std.specs.Prelude.{◌≡◌, length};
+ghost use Rattle.std.specs.Prelude.{◌≡◌, ◌<◌, ◌≤◌, length};
 ghost use Rattle.wl_server.specs.Acting.{InTurn, Takes};
 ghost use Rattle.wl_server.specs.Phases.{AtSeat, Reads, ReadsClient, ReadsOnce};
 ghost use Rattle.wl_server.specs.Ways.{ways};
@@ -67,15 +67,16 @@ fn read_client<A: Allocator + Copy, H: Hub>(
     }
 }
 
-/// Reads once, and feeds what came. False where no more is to be read: it would block, or the client is gone.
-fn read_once<A: Allocator + Copy, H: Hub>(
+/// Reads once into the front of `buf`, and feeds what came. False where no more is to be read: it would block, or the client is gone.
+pub(crate) fn read_once<A: Allocator + Copy, H: Hub>(
     hub: &mut H,
     session: &mut Session<A>,
     client: ClientNo,
     seat: &mut Seat<H::Conn>,
     buf: &mut [u8],
 ) -> bool
-    requires { length buf.old ≡ 4096 }
+    requires some { 0 < length buf.old }
+    requires few { length buf.old ≤ 4096 }
     ensures { Takes (ReadsOnce (ways H.accepts H.reads H.writes H.closes H.fault_count) client result (hub.old, seat.old) (hub.new, seat.new)) session.old session.new }
 {
     match receive(hub, &mut seat.conn, buf) {

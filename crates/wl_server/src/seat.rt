@@ -18,6 +18,10 @@ pub struct Seat<C: Drop> {
     pub has_sent: bool,
     /// Whether a write to it failed.
     pub has_failed: bool,
+    /// How much of the server's time it owes, in nanoseconds, where clients share that.
+    pub debt: u64,
+    /// How many bytes it is read by, where clients share the server's time.
+    pub piece: usize,
 }
 
 impl<C: Drop> Seat<C> {
@@ -30,6 +34,8 @@ impl<C: Drop> Seat<C> {
             number,
             has_sent: false,
             has_failed: false,
+            debt: 0,
+            piece: 8,
         }
     }
 }
@@ -68,4 +74,25 @@ impl<C: Drop> Connections<C> {
             accepted: 0,
         }
     }
+    /// How many were accepted so far.
+    pub(crate) fn count(&self) -> u32 {
+        self.accepted
+    }
+
+    /// Whether any client sent bytes when it was last read.
+    pub fn have_sent(&self) -> bool {
+        have_sent(&self.seats)
+    }
+}
+
+/// Whether any of these clients sent bytes when it was last read.
+fn have_sent<C: Drop>(seats: &[Option<Seat<C>>]) -> bool {
+    for seat in seats {
+        if let Some(seat) = seat {
+            if seat.has_sent {
+                return true;
+            }
+        }
+    }
+    false
 }

@@ -1,25 +1,26 @@
 //! What lasts from turn to turn, and the turn.
 
-ghost use Rattle.std.specs.Prelude.{◌≡◌, ⊤, OnOk};
+ghost use Rattle.std.specs.Prelude.{◌≡◌, ⊤, OnOk, Option};
 ghost use Rattle.wl_recording.specs.Side.{files_of};
 ghost use Rattle.wl_server.specs.Acting.{IsServed, Takes};
 ghost use Rattle.wl_server.specs.Due.{left_at};
-ghost use Rattle.wl_server.specs.Phases.{IsTurn, Serves, StartsServing, StartsTurn};
+ghost use Rattle.wl_server.specs.Phases.{IsTurn, Serves, StartsServing, StartsTurn, TakesIn};
 ghost use Rattle.wl_recording.specs.Images.{images_in};
 ghost use Rattle.wl_server.specs.Telling.{IsToldOf, Tells};
+ghost use Rattle.wl_server.specs.Viewed.{IsViewedTurn, ServesViewed};
 ghost use Rattle.wl_server.specs.Ways.{serving, ways};
+ghost use Rattle.wl_viewer.specs.Telling.{Update};
 
-use crate::accepting::accept_all;
-use crate::closing::close_all;
 use crate::error::TurnError;
-use crate::filling::fill_all;
+use crate::hearing::hear;
 use crate::hub::Hub;
+use crate::phases::{give_out, take_in};
 use crate::pointing::point_all;
-use crate::reading::read_all;
 use crate::seat::Connections;
 use crate::showing::show;
+use crate::viewed::{show_viewed, tell};
+use crate::viewing::Viewing;
 use crate::waiting::Waiting;
-use crate::writing::write_all;
 use std::alloc::Allocator;
 use std::io::Write;
 use wl_recording::{PointerLine, SideFiles};
@@ -96,22 +97,84 @@ fn take_phases<A: Allocator + Copy, H: Hub, S: SideFiles, W: Write, P: Write>(
     report: &mut W,
     ppm: &mut Option<P>,
 ) -> Result<(), TurnError>
-    ensures taken { OnOk result (Tells (Serves (ways H.accepts H.reads H.writes H.closes H.fault_count) (files_of S.opens S.gives S.fault_count) time 32
+    ensures taken { OnOk result (Tells (Serves (TakesIn (ways H.accepts H.reads H.writes H.closes H.fault_count) (files_of S.opens S.gives S.fault_count)) (ways H.accepts H.reads H.writes H.closes H.fault_count) time 32
         (serving service.old.hub connections.old service.old.side service.old.waiting) (serving service.new.hub connections.new service.new.side service.new.waiting))
         service.old.session service.new.session (W.contents report.old) (W.contents report.new)
         (images_in P.contents ppm.old) (images_in P.contents ppm.new)) }
-    ensures begun { Takes (StartsServing (ways H.accepts H.reads H.writes H.closes H.fault_count) (files_of S.opens S.gives S.fault_count) time
+    ensures begun { Takes (StartsServing (TakesIn (ways H.accepts H.reads H.writes H.closes H.fault_count) (files_of S.opens S.gives S.fault_count)) (ways H.accepts H.reads H.writes H.closes H.fault_count) time
         (serving service.old.hub connections.old service.old.side service.old.waiting) (serving service.new.hub connections.new service.new.side service.new.waiting))
         service.old.session service.new.session }
     ensures waiting { service.new.waiting ≡ service.old.waiting }
 {
-    let hub = &mut service.hub;
-    let session = &mut service.session;
-    let seats = &mut connections.seats;
-    accept_all(hub, session, seats, &mut connections.accepted, report)?;
-    read_all(hub, session, seats);
-    fill_all(session, seats, &mut service.side);
-    show(session, time, report, ppm)?;
-    write_all(hub, session, seats);
-    close_all(hub, session, seats, report)
+    take_in(service, connections, report)?;
+    show(&mut service.session, time, report, ppm)?;
+    give_out(service, connections, report)
+}
+
+/// Takes one turn as [`turn`] does, with a viewer (`wl_viewer`): behind the pointer's lines the viewer is written to and read, and the pointer does
+/// what its lines ask, at this time; a connection of its hub that waits gets the place where nobody has it, and else is closed at once. Behind the
+/// frame's damage one update of all that the viewer wasn't told is made, in the pixels of that frame, where nothing waits to be sent to it; and at the
+/// end of the turn it is answered, and written to until it would block. One that ends or fails, that sends a line which is none, or for which memory is
+/// refused, loses its place: the buttons that it holds are released, and its connection is closed.
+///
+/// Whoever copies the pixels of each whole update holds the frame of the tick at the update's time, in which each point is the desktop painted from
+/// nothing where no window covers it of a client that broke its promises.
+///
+/// Nothing of the viewer is told on the report, and nothing of it is answered.
+pub fn turn_viewed<A: Allocator + Copy, H: Hub, S: SideFiles, V: Hub, W: Write, P: Write>(
+    service: &mut Service<A, H, S>,
+    connections: &mut Connections<H::Conn>,
+    viewing: &mut Viewing<A, V, V::Conn>,
+    time: u32,
+    report: &mut W,
+    ppm: &mut Option<P>,
+) -> Result<(), TurnError>
+    ensures taken { OnOk result (IsServed (IsViewedTurn (ways H.accepts H.reads H.writes H.closes H.fault_count) (ways V.accepts V.reads V.writes V.closes V.fault_count) (files_of S.opens S.gives S.fault_count) time viewing.old.width viewing.old.height
+        (serving service.old.hub connections.old service.old.side service.old.waiting, (viewing.old.hub, viewing.old.watcher))
+        (serving service.new.hub connections.new service.new.side service.new.waiting, (viewing.new.hub, viewing.new.watcher)))
+        (IsToldOf (W.contents report.old) (W.contents report.new) (images_in P.contents ppm.old) (images_in P.contents ppm.new))
+        service.old.session service.new.session) }
+    ensures waiting { service.new.waiting ≡ left_at time service.old.waiting }
+    ensures width { viewing.new.width ≡ viewing.old.width }
+    ensures height { viewing.new.height ≡ viewing.old.height }
+{
+    point_all(&mut service.session, &mut service.waiting, time);
+    hear(viewing, &mut service.session, time);
+    take_viewed_phases(service, connections, viewing, time, report, ppm)?;
+    tell(
+        &mut viewing.hub,
+        &mut viewing.watcher,
+        &mut service.session,
+        time,
+    );
+    Ok(())
+}
+
+/// Serves the clients, and the viewer is told of the frame: the phases of a turn, but those of the pointer's lines and of the viewer's connection.
+fn take_viewed_phases<A: Allocator + Copy, H: Hub, S: SideFiles, V: Hub, W: Write, P: Write>(
+    service: &mut Service<A, H, S>,
+    connections: &mut Connections<H::Conn>,
+    viewing: &mut Viewing<A, V, V::Conn>,
+    time: u32,
+    report: &mut W,
+    ppm: &mut Option<P>,
+) -> Result<(), TurnError>
+    ensures taken { OnOk result ((update : Option Update) × Tells (ServesViewed (TakesIn (ways H.accepts H.reads H.writes H.closes H.fault_count) (files_of S.opens S.gives S.fault_count)) (ways H.accepts H.reads H.writes H.closes H.fault_count) time 32 update
+        (serving service.old.hub connections.old service.old.side service.old.waiting, (viewing.old.hub, viewing.old.watcher))
+        (serving service.new.hub connections.new service.new.side service.new.waiting, (viewing.new.hub, viewing.new.watcher)))
+        service.old.session service.new.session (W.contents report.old) (W.contents report.new)
+        (images_in P.contents ppm.old) (images_in P.contents ppm.new)) }
+    ensures waiting { service.new.waiting ≡ service.old.waiting }
+    ensures width { viewing.new.width ≡ viewing.old.width }
+    ensures height { viewing.new.height ≡ viewing.old.height }
+{
+    take_in(service, connections, report)?;
+    show_viewed(
+        &mut service.session,
+        &mut viewing.watcher,
+        time,
+        report,
+        ppm,
+    )?;
+    give_out(service, connections, report)
 }

@@ -13,7 +13,6 @@ use Rattle.spec_desktop.specs.declared.answers.Done.TheVariants as gave
 use Rattle.spec_desktop.specs.Desktop.{Desktop, Resident, client_at, unpointed, with_client}
 use Rattle.spec_desktop.specs.Happenings.{Happening, Leads, Message, Receive, ReceivesAt, Single, Starve}
 use Rattle.spec_desktop.specs.Happens.{Happens, Serves}
-use Rattle.spec_desktop.specs.LeftOut.{nothing_left_out}
 use Rattle.spec_desktop.specs.Marks.{AreDistinct}
 use Rattle.spec_desktop.specs.Moments.{marks_at_least, marks_at_most_through}
 use Rattle.spec_desktop.specs.Stacked.{all_windows}
@@ -57,8 +56,8 @@ kept-unmarked v c piece d a x y =
 -- ---- one step
 
 -- what leads to a desktop is a step to it
-pub led-happens : (act : Act) (done : Done) (P : Desktop → Type 0) (before after : Damaged) (d : Desktop) → (led : Led P (Single act done) before after d) → Happens nothing_left_out act done d led.desktop
-led-happens act done P before after d led = (happens_leads_through nothing_left_out act done d led.desktop).0 led.path led.leads
+pub led-happens : (act : Act) (done : Done) (P : Desktop → Type 0) (before after : Damaged) (d : Desktop) → (led : Led P (Single act done) before after d) → Happens act done d led.desktop
+led-happens act done P before after d led = (happens_leads_through act done d led.desktop).0 led.path led.leads
 
 pub leads-step : (act : Act) (done : Done) (old new : MarkedDesk) → LeadsBy (Single act done) old new → TakesStep act done old.desk new.desk
 leads-step act done old new leads = λ d a.
@@ -67,9 +66,9 @@ leads-step act done old new leads = λ d a.
 
 -- ---- one event
 
-right-so : (old new : SessionView) (d e : Desktop) (events : List Event) → AreApart events → AreEvents nothing_left_out (moment d old) events (moment e new)
+right-so : (old new : SessionView) (d e : Desktop) (events : List Event) → AreApart events → AreEvents (moment d old) events (moment e new)
     → (liars last : ℕ → Bool) → AreLiars liars events last → IsRightBut liars (moment d old) → IsRightBut last (moment e new)
-right-so old new d e events apart leads liars last broke right = stays_right nothing_left_out (moment d old) (moment e new) events liars last apart leads broke right
+right-so old new d e events apart leads liars last broke right = stays_right (moment d old) (moment e new) events liars last apart leads broke right
 
 -- It marks what it has to and what it may.
 led-marks : (h : Happening) (old new : SessionView) (d : Desktop) → Agrees old.desk d → (led : Led (Agrees new.desk) h old.damage new.damage d) → new.frame ≡ old.frame
@@ -79,18 +78,18 @@ led-marks h old new d a led frame sides quiet = record {
   sides = sides;
   marks = λ x y wide high clean.
       let unmarked = (led.marks x y wide high).0 clean in
-      (unmarked.0, marked_through nothing_left_out h d led.path led.desktop (pos x) (pos y) (apart-at old.desk d a) led.leads unmarked.1);
+      (unmarked.0, marked_through h d led.path led.desktop (pos x) (pos y) (apart-at old.desk d a) led.leads unmarked.1);
   each = λ x y wide high clean. ((led.marks x y wide high).0 clean).1;
   most = λ x y wide high again. (led.marks x y wide high).1 again;
   quiet = quiet;
 }
 
 -- It is a step by itself.
-event-course : (act : Act) (done : Done) (h : Happening) (old new : SessionView) (d e : Desktop) (path : List Desktop) → Agrees old.desk d → Agrees new.desk e → Happens nothing_left_out act done d e
-    → AreParts act done (h ∷ []) → Leads nothing_left_out h d path e → PaintsIf (is_frame h) h (moment d old) path (moment e new) → Course act done old new d
+event-course : (act : Act) (done : Done) (h : Happening) (old new : SessionView) (d e : Desktop) (path : List Desktop) → Agrees old.desk d → Agrees new.desk e → Happens act done d e
+    → AreParts act done (h ∷ []) → Leads h d path e → PaintsIf (is_frame h) h (moment d old) path (moment e new) → Course act done old new d
 event-course act done h old new d e path a b happens parts led paints =
     let event : Event = record { happening = h; before = moment d old; path = path; after = moment e new } in
-    let leads : AreEvents nothing_left_out (moment d old) (event ∷ []) (moment e new) = (refl, record { leads = led; paints = paints }, refl) in
+    let leads : AreEvents (moment d old) (event ∷ []) (moment e new) = (refl, record { leads = led; paints = paints }, refl) in
     let apart : AreApart (event ∷ []) = (apart-at old.desk d a, apart-at new.desk e b, tt) in
     record {
       desktop = e;
@@ -116,7 +115,7 @@ marked-course act done old new tick parts frame sides leads quiet = λ d a.
 -- there was no memory to keep a piece, and nothing was marked by that
 pub starved-course : (client : ℕ) (piece : List ℕ) (done : Done) (old new : SessionView) (before : Damaged) (d : Desktop) → before ≡ old.damage → new.frame ≡ old.frame
     → HasItsSides before new.damage → Agrees old.desk d
-    → (led : Led (Agrees new.desk) (Starve client) before new.damage d) → Happens nothing_left_out (Feed client piece) done d led.desktop → Course (Feed client piece) done old new d
+    → (led : Led (Agrees new.desk) (Starve client) before new.damage d) → Happens (Feed client piece) done d led.desktop → Course (Feed client piece) done old new d
 starved-course client piece done old new before d same frame sides a led happens =
     let from : Led (Agrees new.desk) (Starve client) old.damage new.damage d = record {
       path = led.path;
@@ -143,7 +142,7 @@ tick-course time old new none bare sides more leads next = λ d a.
       sides = record { width = more.width ∙ sides.width; height = more.height ∙ sides.height };
       none = λ stays x y w h. quietly.1 stays x y (wide x w) (high y h) ∙ bare x y;
       marks = λ x y w h clean.
-          marked_through nothing_left_out (Single (Tick time) gave.Tick) d led.path led.desktop (pos x) (pos y) (apart-at old.desk d a) led.leads
+          marked_through (Single (Tick time) gave.Tick) d led.path led.desktop (pos x) (pos y) (apart-at old.desk d a) led.leads
           ((led.marks x y (wide x w) (high y h)).0 clean).1;
       each = λ x y w h clean. ((led.marks x y (wide x w) (high y h)).0 clean).1;
       most = λ x y w h again.
@@ -152,8 +151,8 @@ tick-course time old new none bare sides more leads next = λ d a.
 
 -- ---- events one after another
 
-pub events-then : (from mid to : Moment) (first later : List Event) → AreEvents nothing_left_out from first mid → AreEvents nothing_left_out mid later to → AreEvents nothing_left_out from (first ++ later) to
-events-then from mid to [] later first-leads leads = subst (λ m. AreEvents nothing_left_out m later to) first-leads leads
+pub events-then : (from mid to : Moment) (first later : List Event) → AreEvents from first mid → AreEvents mid later to → AreEvents from (first ++ later) to
+events-then from mid to [] later first-leads leads = subst (λ m. AreEvents m later to) first-leads leads
 events-then from mid to (e ∷ es) later first-leads leads = (first-leads.0, first-leads.1, events-then e.after mid to es later first-leads.2 leads)
 
 pub apart-then : (first later : List Event) → AreApart first → AreApart later → AreApart (first ++ later)
@@ -175,10 +174,10 @@ pub served-more : (client : ℕ) (old mid new : SessionView) (d : Desktop) → (
     → (led : Led (Agrees new.desk) (Message client) mid.damage new.damage s.desktop) → Took client old new d
 served-more client old mid new d s frame sides led =
     let e : Desktop = led.desktop in
-    let serves : Serves nothing_left_out client s.desktop e = (messages_lead_through nothing_left_out client s.desktop e).0 led.path led.leads in
+    let serves : Serves client s.desktop e = (messages_lead_through client s.desktop e).0 led.path led.leads in
     let event : Event = record { happening = Message client; before = moment s.desktop mid; path = led.path; after = moment e new } in
     let marks : IsMarked (Message client) (moment s.desktop mid) led.path (moment e new) = led-marks (Message client) mid new s.desktop s.agrees led frame sides (λ no. absurd (true≢false (sym no))) in
-    let last : AreEvents nothing_left_out (moment s.desktop mid) (event ∷ []) (moment e new) = (refl, record { leads = led.leads; paints = marks }, refl) in
+    let last : AreEvents (moment s.desktop mid) (event ∷ []) (moment e new) = (refl, record { leads = led.leads; paints = marks }, refl) in
     record {
       count = suc s.count;
       desktop = e;
@@ -203,7 +202,7 @@ took-then client old mid new d s damage frame agrees =
         events = s.events;
         reaches = s.reaches;
         parts = s.parts;
-        leads = subst (λ m. AreEvents nothing_left_out (moment d old) s.events m) same s.leads;
+        leads = subst (λ m. AreEvents (moment d old) s.events m) same s.leads;
         apart = s.apart;
         agrees = agrees;
       },
@@ -215,17 +214,17 @@ took-then client old mid new d s damage frame agrees =
 -- a piece that was kept, and then so many messages
 pub fed-course : (client : ℕ) (piece : List ℕ) (done : Done) (old kept new : SessionView) (d : Desktop) → kept.frame ≡ old.frame → kept.damage ≡ old.damage → Agrees old.desk d
     → (s : Took client kept new (kept_at client piece d))
-    → Happens nothing_left_out (Feed client piece) done d s.desktop → Agrees kept.desk (kept_at client piece d) → Course (Feed client piece) done old new d
+    → Happens (Feed client piece) done d s.desktop → Agrees kept.desk (kept_at client piece d) → Course (Feed client piece) done old new d
 fed-course client piece done old kept new d frame damage a s happens b = at (client_at client d) refl
   where
     none-at : (s.count ≡ zero) × (s.desktop ≡ kept_at client piece d) → kept_at client piece d ≡ d → Course (Feed client piece) done old new d
     none-at none same =
         let bare : s.events ≡ [] = empty s.events (s.parts ∙ ap (λ n. replicate n (Message client)) none.0) in
-        let still : moment s.desktop new ≡ moment (kept_at client piece d) kept = subst (λ es. AreEvents nothing_left_out (moment (kept_at client piece d) kept) es (moment s.desktop new)) bare s.leads in
+        let still : moment s.desktop new ≡ moment (kept_at client piece d) kept = subst (λ es. AreEvents (moment (kept_at client piece d) kept) es (moment s.desktop new)) bare s.leads in
         let begun : moment (kept_at client piece d) kept ≡ moment d old =
         ap (λ (x : Desktop). record { desktop = x; damage = kept.damage; frame = kept.frame }) same
         ∙ (ap (λ (m : Damaged). record { desktop = d; damage = m; frame = kept.frame }) damage ∙ ap (λ (i : Image). record { desktop = d; damage = old.damage; frame = i }) frame) in
-        let leads : AreEvents nothing_left_out (moment d old) [] (moment s.desktop new) = still ∙ begun in
+        let leads : AreEvents (moment d old) [] (moment s.desktop new) = still ∙ begun in
         record { desktop = s.desktop; events = []; happens = happens; parts = inl refl; leads = leads; apart = tt; right = right-so old new d s.desktop [] tt leads; agrees = s.agrees }
       where
         empty : (es : List Event) → happenings es ≡ [] → es ≡ []
@@ -240,7 +239,7 @@ fed-course client piece done old kept new d frame damage a s happens b = at (cli
         let come : Resident = with_peer (with_rest (r.peer.rest ++ piece) r.peer) r in
         let same : kept_at client piece d ≡ with_client client (Some come) d = ap (λ o. kept_of client piece o d) there ∙ ap (λ t. kept_by client piece t r d) alive in
         let event : Event = record { happening = Receive client piece; before = moment d old; path = kept_at client piece d ∷ []; after = moment (kept_at client piece d) kept } in
-        let received : Leads nothing_left_out (Receive client piece) d (kept_at client piece d ∷ []) (kept_at client piece d) =
+        let received : Leads (Receive client piece) d (kept_at client piece d ∷ []) (kept_at client piece d) =
         subst (λ o. ReceivesAt client piece o d (kept_at client piece d ∷ []) (kept_at client piece d)) (sym there) (alive, same, refl) in
         let marks : IsMarked (Receive client piece) (moment d old) (kept_at client piece d ∷ []) (moment (kept_at client piece d) kept) = record {
           frame = frame;
@@ -250,7 +249,7 @@ fed-course client piece done old kept new d frame damage a s happens b = at (cli
           most = λ x y w h again. or_left (has old.damage x y) _ (ap (λ (m : Damaged). has m x y) (sym damage) ∙ again);
           quiet = λ _ x y w h. ap (λ (m : Damaged). has m x y) damage;
         } in
-        let leads : AreEvents nothing_left_out (moment d old) (event ∷ s.events) (moment s.desktop new) = (refl, record { leads = received; paints = marks }, s.leads) in
+        let leads : AreEvents (moment d old) (event ∷ s.events) (moment s.desktop new) = (refl, record { leads = received; paints = marks }, s.leads) in
         let apart : AreApart (event ∷ s.events) = (apart-at old.desk d a, apart-at kept.desk (kept_at client piece d) b, s.apart) in
         record {
           desktop = s.desktop;

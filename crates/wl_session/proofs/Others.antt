@@ -1,4 +1,4 @@
--- Where nobody points, what happens to one client leaves the others as they were, with their popups and wl_pointers, whatever is left out.
+-- Where nobody points, what happens to one client leaves the others as they were, with their popups and wl_pointers.
 use Rattle.std.proofs.Common.{◌≡◌, ◌≢◌, ℕ, zero, suc, ◌+◌, List, ◌++◌, Bool, true, false, Option, Some, None, Result, drop, take, refl, ap, subst, sym, ◌∙◌, inl, inr}
 use Rattle.std.proofs.lemmas.Bool.{true≢false}
 use Rattle.std.specs.Prelude.{Ok, Err, ◌-◌}
@@ -22,7 +22,6 @@ use Rattle.spec_desktop.specs.Demand.{Demand, CommitTree, EndToplevel, Move}
 use Rattle.spec_desktop.specs.Demanding.{effect_of_commit, judge_all}
 use Rattle.spec_desktop.specs.Desktop.{Desktop, Resident, arrival, become, client_at, client_in, with_client}
 use Rattle.spec_desktop.specs.Happens.{FeedsAt, Happens, IsFedAt, Reaches, Serves, StopsAt, wants_memory}
-use Rattle.spec_desktop.specs.LeftOut.{LeftOut}
 use Rattle.spec_desktop.specs.Replies.{replies}
 use Rattle.spec_desktop.specs.Settling.{EndsAndSettles, becomes, unstruck}
 use Rattle.spec_desktop.specs.Stacked.{all_windows}
@@ -61,7 +60,7 @@ stacked-still c demand r windows d still = still
 
 -- ---- one other client
 
-module _ (left : LeftOut) (c other : ℕ) (true≢false : c ≢ other) where
+module _ (c other : ℕ) (true≢false : c ≢ other) where
   -- the other client is as it was, with its toplevels, and nobody points
   abbrev Stays-so : Desktop → Desktop → Type 0
   Stays-so d e = IsLeft other d e × (e.pointer ≡ first_pointer)
@@ -100,11 +99,11 @@ module _ (left : LeftOut) (c other : ℕ) (true≢false : c ≢ other) where
       (settled-back after e (ap (λ (x : Desktop). x.pointer) same ∙ by-pointer last.status c made last d ∙ still) h.3 ∙ same)
 
   module _ (r : Resident) (d e : Desktop) (is : client_at c d ≡ Some r) (still : d.pointer ≡ first_pointer) where
-    does-so : (demand : Demand) (now : Resident) → now.peer.status ≡ None → Does left c demand now d e → Stays-so d e
+    does-so : (demand : Demand) (now : Resident) → now.peer.status ≡ None → Does c demand now d e → Stays-so d e
     does-so demand now alive h =
         let made : Resident = changed_for c demand now d in
         let on : Desktop = stacked_for c demand now (all_windows d) d in
-        let events : List Said = replies left c demand now made (all_windows d) d in
+        let events : List Said = replies c demand now made (all_windows d) d in
         let clients : on.clients ≡ d.clients = ap (λ (x : Desktop). x.clients) (sym (done-still c demand now d still)) ∙ done-clients_stay c demand now d in
         let there : client_at c on ≡ Some r = ap (λ (rs : List (Option Resident)). client_in rs c) clients ∙ is in
         let first : IsDone events c made on e = subst (λ (x : Desktop). IsDone events c made x e) (done-still c demand now d still) h in
@@ -112,31 +111,31 @@ module _ (left : LeftOut) (c other : ℕ) (true≢false : c ≢ other) where
         (ap (λ (rs : List (Option Resident)). client_in rs other) clients, stacked-others c other demand now (all_windows d) d true≢false)
         (done-so events made r on e there (stacked-still c demand now (all_windows d) d still) ((changed-steady c demand d now).0 ∙ alive) first)
 
-    wants-so : (b : Bool) (demand : Demand) (now : Resident) → now.peer.status ≡ None → WantsOr b (Does left c demand now d e) c now d e → Stays-so d e
+    wants-so : (b : Bool) (demand : Demand) (now : Resident) → now.peer.status ≡ None → WantsOr b (Does c demand now d e) c now d e → Stays-so d e
     wants-so false demand now alive h = does-so demand now alive h
     wants-so true demand now alive (inl h) = becomes-so (LacksMemory now.peer) now d e still h
     wants-so true demand now alive (inr h) = does-so demand now alive h
 
-    answers-so : (judged : Result Demand Refusal) (now : Resident) → now.peer.status ≡ None → Answers left judged c now d e → Stays-so d e
+    answers-so : (judged : Result Demand Refusal) (now : Resident) → now.peer.status ≡ None → Answers judged c now d e → Stays-so d e
     answers-so (Ok demand) now alive h = wants-so (wants_memory demand) demand (with_peer (counted now.peer) now) alive h
     answers-so (Err refusal) now alive h = becomes-so (Errs refusal now.peer) now d e still h
 
-    takes-so : (split : Split) → r.peer.status ≡ None → Takes left split c r d e → Stays-so d e
+    takes-so : (split : Split) → r.peer.status ≡ None → Takes split c r d e → Stays-so d e
     takes-so (Message object opcode size) alive h =
-        answers-so (judge_all left r object opcode (take (size - 8) (drop 8 r.peer.rest))) (with_peer (with_rest (drop size r.peer.rest) r.peer) r) alive h
+        answers-so (judge_all r object opcode (take (size - 8) (drop 8 r.peer.rest))) (with_peer (with_rest (drop size r.peer.rest) r.peer) r) alive h
     takes-so Bad alive h = becomes-so (Errs (display_error InvalidMethod) r.peer) r d e still h
     takes-so More alive h = absurd h
 
-  serves-so : (d e : Desktop) → d.pointer ≡ first_pointer → Serves left c d e → Stays-so d e
+  serves-so : (d e : Desktop) → d.pointer ≡ first_pointer → Serves c d e → Stays-so d e
   serves-so d e still h = at (client_at c d) refl h
     where
-      at : (o : Option Resident) → client_at c d ≡ o → ServesAt left c o d e → Stays-so d e
+      at : (o : Option Resident) → client_at c d ≡ o → ServesAt c o d e → Stays-so d e
       at None is served = absurd served
       at (Some r) is served = takes-so r d e is still (split_of r.peer.rest) served.0 served.1
 
   -- ---- a piece
 
-  reaches-so : (n : ℕ) (d e : Desktop) → d.pointer ≡ first_pointer → Reaches left c n d e → Stays-so d e
+  reaches-so : (n : ℕ) (d e : Desktop) → d.pointer ≡ first_pointer → Reaches c n d e → Stays-so d e
   reaches-so zero d e still h = same-so d e still h
   reaches-so (suc n) d e still h =
       let first = reaches-so n d h.0 still h.1 in
@@ -147,7 +146,7 @@ module _ (left : LeftOut) (c other : ℕ) (true≢false : c ≢ other) where
   stops-so (Some r) d e still (inl h) = same-so d e still h.0
   stops-so (Some r) d e still (inr h) = settled-so r (ended Memory r.peer) d e still h.1
 
-  feeds-so : (s : Option Cause) (piece : List ℕ) (r : Resident) (d e : Desktop) → d.pointer ≡ first_pointer → FeedsAt left c piece s r d e → Stays-so d e
+  feeds-so : (s : Option Cause) (piece : List ℕ) (r : Resident) (d e : Desktop) → d.pointer ≡ first_pointer → FeedsAt c piece s r d e → Stays-so d e
   feeds-so (Some cause) piece r d e still h = same-so d e still h
   feeds-so None piece r d e still h =
       let come : Resident = with_peer (with_rest (r.peer.rest ++ piece) r.peer) r in
@@ -156,7 +155,7 @@ module _ (left : LeftOut) (c other : ℕ) (true≢false : c ≢ other) where
       then-so d from e (with-left c other (Some come) d true≢false)
       (then-so from h.1 e first.0 (stops-so (client_at c h.1) h.1 e first.1 h.3))
 
-  fed-so : (piece : List ℕ) (o : Option Resident) (d : Desktop) (done : Done) (e : Desktop) → d.pointer ≡ first_pointer → IsFedAt left c piece o d done e → Stays-so d e
+  fed-so : (piece : List ℕ) (o : Option Resident) (d : Desktop) (done : Done) (e : Desktop) → d.pointer ≡ first_pointer → IsFedAt c piece o d done e → Stays-so d e
   fed-so piece None d done e still h = same-so d e still h.1
   fed-so piece (Some r) d done e still h = feeds-so r.peer.status piece r d e still h.0
 
@@ -190,19 +189,19 @@ connects-so (Some k) other old new done apart (inr h) =
     (with-left (k + 1) other come old (λ same. apart (ap (client_of Connect) h.0 ∙ ap (λ (n : ℕ). Some n) same)))
     (same-left other (with_client (k + 1) come old) new h.1)
 
-pub unpointed-stay : (left : LeftOut) (act : Act) (done : Done) (old new : Desktop) (other : ℕ) → is_tick act ≡ false → LeavesPointer act → old.pointer ≡ first_pointer
-    → Happens left act done old new → client_of act done ≢ Some other → IsLeft other old new
-unpointed-stay left Connect done old new other untimed leaves still h apart = connects-so (lowest old.clients) other old new done apart h
-unpointed-stay left (Feed c piece) done old new other untimed leaves still h apart =
-    (fed-so left c other (λ same. apart (ap (λ (n : ℕ). Some n) same)) piece (client_at c old) old done new still h).0
-unpointed-stay left (Store c store at bytes) done old new other untimed leaves still h apart =
-    (changes-so left c other (λ same. apart (ap (λ (n : ℕ). Some n) same)) (IsStored store at bytes) _ done (client_at c old) old new still h).0
-unpointed-stay left (Leave c) done old new other untimed leaves still h apart =
-    (leaves-so left c other (λ same. apart (ap (λ (n : ℕ). Some n) same)) (client_at c old) old new done still h).0
-unpointed-stay left (Tick time) done old new other untimed leaves still h apart = absurd (true≢false untimed)
-unpointed-stay left (Send c n) done old new other untimed leaves still h apart =
-    (changes-so left c other (λ same. apart (ap (λ (n : ℕ). Some n) same)) (IsSent n) _ done (client_at c old) old new still h).0
-unpointed-stay left (Close c) done old new other untimed leaves still h apart =
-    (changes-so left c other (λ same. apart (ap (λ (n : ℕ). Some n) same)) IsClosed _ done (client_at c old) old new still h).0
-unpointed-stay left (Motion time x y) done old new other untimed leaves still h apart = absurd leaves
-unpointed-stay left (Button time button pressed) done old new other untimed leaves still h apart = absurd leaves
+pub unpointed-stay : (act : Act) (done : Done) (old new : Desktop) (other : ℕ) → is_tick act ≡ false → LeavesPointer act → old.pointer ≡ first_pointer
+    → Happens act done old new → client_of act done ≢ Some other → IsLeft other old new
+unpointed-stay Connect done old new other untimed leaves still h apart = connects-so (lowest old.clients) other old new done apart h
+unpointed-stay (Feed c piece) done old new other untimed leaves still h apart =
+    (fed-so c other (λ same. apart (ap (λ (n : ℕ). Some n) same)) piece (client_at c old) old done new still h).0
+unpointed-stay (Store c store at bytes) done old new other untimed leaves still h apart =
+    (changes-so c other (λ same. apart (ap (λ (n : ℕ). Some n) same)) (IsStored store at bytes) _ done (client_at c old) old new still h).0
+unpointed-stay (Leave c) done old new other untimed leaves still h apart =
+    (leaves-so c other (λ same. apart (ap (λ (n : ℕ). Some n) same)) (client_at c old) old new done still h).0
+unpointed-stay (Tick time) done old new other untimed leaves still h apart = absurd (true≢false untimed)
+unpointed-stay (Send c n) done old new other untimed leaves still h apart =
+    (changes-so c other (λ same. apart (ap (λ (n : ℕ). Some n) same)) (IsSent n) _ done (client_at c old) old new still h).0
+unpointed-stay (Close c) done old new other untimed leaves still h apart =
+    (changes-so c other (λ same. apart (ap (λ (n : ℕ). Some n) same)) IsClosed _ done (client_at c old) old new still h).0
+unpointed-stay (Motion time x y) done old new other untimed leaves still h apart = absurd leaves
+unpointed-stay (Button time button pressed) done old new other untimed leaves still h apart = absurd leaves

@@ -10,7 +10,6 @@ use Rattle.wl_surface.specs.Request.{Buffer}
 use Rattle.spec_desktop.specs.declared.answers.Done.{Done}
 use Rattle.spec_desktop.specs.Desktop.{Desktop, Resident, client_at, owned_of, with_client, toplevels_of}
 use Rattle.spec_desktop.specs.Happenings.{Message, Receive, ReceivesAt, Single, Starve}
-use Rattle.spec_desktop.specs.LeftOut.{LeftOut}
 use Rattle.spec_desktop.specs.Scratch.{pixel_at}
 use Rattle.spec_desktop.specs.Stacked.{all_windows}
 use Rattle.spec_desktop.specs.Step.{with_peer}
@@ -88,23 +87,23 @@ own-kept c old new h = at (client_at c old) refl h
     at (Some r) was k = by r was r.peer.status k
 
 -- Neither a motion of the pointer nor a button shows a change that isn't damaged.
-user-hides-nothing : (left : LeftOut) (act : Act) (done : Done) (old new : Desktop) (c : ℕ) → client_of act done ≡ None → Happens left act done old new → KeepsDamage all_windows old new c
-user-hides-nothing left act done old new c user h =
+user-hides-nothing : (act : Act) (done : Done) (old new : Desktop) (c : ℕ) → client_of act done ≡ None → Happens act done old new → KeepsDamage all_windows old new c
+user-hides-nothing act done old new c user h =
     hides-nothing all_windows old new c (all-shown old) (all-shown new)
-    (own-kept c old new (own_stays left act done c old new (λ e. none-some c (sym user ∙ e)) h))
+    (own-kept c old new (own_stays act done c old new (λ e. none-some c (sym user ∙ e)) h))
 
 -- what is asked of the others is what is wanted
-enough : (left : LeftOut) (liars : ℕ → Bool) (act : Act) (done : Done) (old new : Desktop) → Happens left act done old new → KeepBut all_windows liars (Single act done) old new
+enough : (liars : ℕ → Bool) (act : Act) (done : Done) (old new : Desktop) → Happens act done old new → KeepBut all_windows liars (Single act done) old new
     → AllDamageBut all_windows liars old new
-enough left liars (Store client store at bytes) done old new happens keep = λ c honest. write_hides_nothing left old new client store at c bytes done happens (keep c honest)
-enough left liars (Tick time) done old new happens keep = λ c honest. (keep c honest).0
-enough left liars Connect done old new happens keep = keep
-enough left liars (Feed c piece) done old new happens keep = keep
-enough left liars (Leave c) done old new happens keep = keep
-enough left liars (Send c n) done old new happens keep = keep
-enough left liars (Close c) done old new happens keep = keep
-enough left liars (Motion time x y) done old new happens keep = λ c honest. user-hides-nothing left (Motion time x y) done old new c refl happens
-enough left liars (Button time button pressed) done old new happens keep = λ c honest. user-hides-nothing left (Button time button pressed) done old new c refl happens
+enough liars (Store client store at bytes) done old new happens keep = λ c honest. write_hides_nothing old new client store at c bytes done happens (keep c honest)
+enough liars (Tick time) done old new happens keep = λ c honest. (keep c honest).0
+enough liars Connect done old new happens keep = keep
+enough liars (Feed c piece) done old new happens keep = keep
+enough liars (Leave c) done old new happens keep = keep
+enough liars (Send c n) done old new happens keep = keep
+enough liars (Close c) done old new happens keep = keep
+enough liars (Motion time x y) done old new happens keep = λ c honest. user-hides-nothing (Motion time x y) done old new c refl happens
+enough liars (Button time button pressed) done old new happens keep = λ c honest. user-hides-nothing (Button time button pressed) done old new c refl happens
 
 -- Nor do bytes that come and are kept.
 receive-hides-nothing : (client : ℕ) (piece : List ℕ) (o : Option Resident) (old : Desktop) (path : List Desktop) (new : Desktop) (c : ℕ) → client_at client old ≡ o
@@ -125,7 +124,7 @@ receive-hides-nothing client piece (Some r) old path new c there h =
     stored (inr differ) store = ap (bytes_by store) (number-other old.clients client c (Some (with_peer (with_rest (r.peer.rest ++ piece) r.peer) r)) differ)
 
 pub promises_are_enough : PromisesAreEnough
-promises_are_enough left liars (Receive client piece) old path new leads keep = λ c honest. receive-hides-nothing client piece (client_at client old) old path new c refl leads
-promises_are_enough left liars (Message client) old path new leads keep = keep
-promises_are_enough left liars (Starve client) old path new leads keep = keep
-promises_are_enough left liars (Single act done) old path new leads keep = enough left liars act done old new ((happens_leads_through left act done old new).0 path leads) keep
+promises_are_enough liars (Receive client piece) old path new leads keep = λ c honest. receive-hides-nothing client piece (client_at client old) old path new c refl leads
+promises_are_enough liars (Message client) old path new leads keep = keep
+promises_are_enough liars (Starve client) old path new leads keep = keep
+promises_are_enough liars (Single act done) old path new leads keep = enough liars act done old new ((happens_leads_through act done old new).0 path leads) keep

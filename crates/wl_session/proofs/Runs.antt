@@ -11,7 +11,6 @@ use Rattle.spec_desktop.specs.Act.{Act, Connect, Feed, Store, Leave, Tick, Send,
 use Rattle.spec_desktop.specs.Desktop.{Desktop}
 use Rattle.spec_desktop.specs.Happenings.{Happening, Message, Single}
 use Rattle.spec_desktop.specs.Happens.{Happens}
-use Rattle.spec_desktop.specs.LeftOut.{LeftOut, nothing_left_out}
 use Rattle.wl_desk.specs.Agreeing.{Agrees}
 use Rattle.wl_session.specs.Course.{AreParts, IsSeen, LeadsTo, Ran, Runs, TakesCourse, TakesSteps, happenings, moment}
 use Rattle.wl_session.specs.Events.{AreApart, AreEvents, Event, Moment, frames_of, is_frame, is_tick}
@@ -31,21 +30,21 @@ use Rattle.wl_session.proofs.Stays.{stays_right}
 
 -- ---- steps one after another
 
-runs-last : (left : LeftOut) (acts : List Act) (act : Act) (from mid to : Moment) (events last : List Event) (done : Done) → Runs left from acts events mid
-    → Happens left act done mid.desktop to.desktop
-    → AreParts act done (happenings last) → AreEvents left mid last to → Runs left from (acts ++ act ∷ []) (events ++ last) to
-runs-last left [] act from mid to events last done run happens parts leads = (
+runs-last : (acts : List Act) (act : Act) (from mid to : Moment) (events last : List Event) (done : Done) → Runs from acts events mid
+    → Happens act done mid.desktop to.desktop
+    → AreParts act done (happenings last) → AreEvents mid last to → Runs from (acts ++ act ∷ []) (events ++ last) to
+runs-last [] act from mid to events last done run happens parts leads = (
   to,
   done,
   last,
   [],
-  subst (λ (m : Moment). Happens left act done m.desktop to.desktop) run.1 happens,
+  subst (λ (m : Moment). Happens act done m.desktop to.desktop) run.1 happens,
   parts,
-  subst (λ (m : Moment). AreEvents left m last to) run.1 leads,
+  subst (λ (m : Moment). AreEvents m last to) run.1 leads,
   ap (λ es. es ++ last) run.0 ∙ sym (append-nil last),
   (refl, refl),
 )
-runs-last left (a ∷ acts) act from mid to events last done run happens parts leads = (
+runs-last (a ∷ acts) act from mid to events last done run happens parts leads = (
   run.0,
   run.1,
   run.2,
@@ -54,14 +53,14 @@ runs-last left (a ∷ acts) act from mid to events last done run happens parts l
   run.5,
   run.6,
   ap (λ es. es ++ last) run.7 ∙ append_assoc run.2 run.3 last,
-  runs-last left acts act run.0 mid to run.3 last done run.8 happens parts leads,
+  runs-last acts act run.0 mid to run.3 last done run.8 happens parts leads,
 )
 
 -- they are events one after another
-pub runs-events : (acts : List Act) (from to : Moment) (events : List Event) → Runs nothing_left_out from acts events to → AreEvents nothing_left_out from events to
-runs-events [] from to events run = subst (λ es. AreEvents nothing_left_out from es to) (sym run.0) run.1
+pub runs-events : (acts : List Act) (from to : Moment) (events : List Event) → Runs from acts events to → AreEvents from events to
+runs-events [] from to events run = subst (λ es. AreEvents from es to) (sym run.0) run.1
 runs-events (act ∷ acts) from to events run =
-    subst (λ es. AreEvents nothing_left_out from es to) (sym run.7) (events-then from run.0 to run.2 run.3 run.6 (runs-events acts run.0 to run.3 run.8))
+    subst (λ es. AreEvents from es to) (sym run.7) (events-then from run.0 to run.2 run.3 run.6 (runs-events acts run.0 to run.3 run.8))
 
 -- ---- frames
 
@@ -120,7 +119,7 @@ unfolding head
 first time h same = ap (λ hs. head h hs) same
 
 -- the frame of a tick
-tick-shown : (time : ℕ) (from to : Moment) (events : List Event) (film : Film) → happenings events ≡ Single (Tick time) gave.Tick ∷ [] → AreEvents nothing_left_out from events to → film.time ≡ time
+tick-shown : (time : ℕ) (from to : Moment) (events : List Event) (film : Film) → happenings events ≡ Single (Tick time) gave.Tick ∷ [] → AreEvents from events to → film.time ≡ time
     → AreRuns from.frame.width from.frame.height (has from.damage) film.runs → film.pixels ≡ to.frame.pixels → AreShots (frames_of events) (film ∷ [])
 tick-shown time from to [] film parts leads shown runs pixels = absurd (cc)
 tick-shown time from to (e ∷ (f ∷ fs)) film parts leads shown runs pixels = absurd (cc)
@@ -141,9 +140,9 @@ tick-leads time old new film takes shown runs pixels = λ d a.
     (gave.Tick, course, tick-shown time (moment d old) (moment course.desktop new) course.events film course.parts course.leads shown runs pixels)
 
 -- what it shows, after whatever came before it
-pub tick-scratch : (time : ℕ) (first from to : Moment) (past more : List Event) (liars broke : ℕ → Bool) → IsRightBut liars first → AreEvents nothing_left_out first (past ++ more) to
+pub tick-scratch : (time : ℕ) (first from to : Moment) (past more : List Event) (liars broke : ℕ → Bool) → IsRightBut liars first → AreEvents first (past ++ more) to
     → AreApart (past ++ more)
-    → happenings more ≡ Single (Tick time) gave.Tick ∷ [] → AreEvents nothing_left_out from more to → AreLiars liars (past ++ more) broke → (x y : ℕ) → x < from.frame.width → y < from.frame.height
+    → happenings more ≡ Single (Tick time) gave.Tick ∷ [] → AreEvents from more to → AreLiars liars (past ++ more) broke → (x y : ℕ) → x < from.frame.width → y < from.frame.height
     → is_covered all_windows broke from.desktop (pos x) (pos y) ≡ false → color_at to.frame x y ≡ scratch from.frame.background from.desktop (pos x) (pos y)
 tick-scratch time begun from to past [] liars broke right all apart parts leads holds x y w h clear = absurd (cc)
 tick-scratch time begun from to past (e ∷ (f ∷ fs)) liars broke right all apart parts leads holds x y w h clear = absurd (cc)
@@ -153,7 +152,7 @@ tick-scratch time begun from to past (e ∷ []) liars broke right all apart part
     → color_at e.after.frame x y ≡ scratch m.frame.background m.desktop (pos x) (pos y) =
     λ m same. subst (λ (n : Moment). x < n.frame.width → y < n.frame.height → is_covered all_windows broke n.desktop (pos x) (pos y) ≡ false
     → color_at e.after.frame x y ≡ scratch n.frame.background n.desktop (pos x) (pos y)) same
-    (frame-scratch nothing_left_out past e begun to liars broke all apart (ap is_frame is) holds right x y) in
+    (frame-scratch past e begun to liars broke all apart (ap is_frame is) holds right x y) in
     ap (λ (m : Moment). color_at m.frame x y) leads.2 ∙ shows from leads.0 w h clear
 
 -- ---- a run
@@ -172,8 +171,8 @@ ran-more steps i x old mid new films first d h ran leads =
     record {
       desktop = course.desktop;
       events = ran.events ++ course.events;
-      runs = subst (λ acts. Runs nothing_left_out (moment d old) acts (ran.events ++ course.events) (moment course.desktop new)) (sym acts)
-          (runs-last nothing_left_out (map act_of (take i steps)) (act_of (get_or steps i x)) (moment d old) (moment ran.desktop mid) (moment course.desktop new) ran.events course.events next.0 ran.runs
+      runs = subst (λ acts. Runs (moment d old) acts (ran.events ++ course.events) (moment course.desktop new)) (sym acts)
+          (runs-last (map act_of (take i steps)) (act_of (get_or steps i x)) (moment d old) (moment ran.desktop mid) (moment course.desktop new) ran.events course.events next.0 ran.runs
           course.happens course.parts course.leads);
       apart = apart-then ran.events course.events ran.apart course.apart;
       shots = subst (λ es. AreShots es (films ++ first)) (sym (frames-then ran.events course.events)) (shots-then (frames_of ran.events) (frames_of course.events) films first ran.shots next.2);
@@ -185,9 +184,9 @@ ran-seen acts films old new takes = λ d a.
     let ran = takes d a in
     let leads = runs-events acts (moment d old) (moment ran.desktop new) ran.events ran.runs in (
       ran,
-      (λ liars sight right held. sees-scratch nothing_left_out (moment d old) (moment ran.desktop new) ran.events films liars sight ran.apart leads ran.shots right held),
-      (λ sight held. holds-after nothing_left_out (moment d old) (moment ran.desktop new) ran.events films sight leads ran.shots held),
-      (λ liars last broke right. stays_right nothing_left_out (moment d old) (moment ran.desktop new) ran.events liars last ran.apart leads broke right),
+      (λ liars sight right held. sees-scratch (moment d old) (moment ran.desktop new) ran.events films liars sight ran.apart leads ran.shots right held),
+      (λ sight held. holds-after (moment d old) (moment ran.desktop new) ran.events films sight leads ran.shots held),
+      (λ liars last broke right. stays_right (moment d old) (moment ran.desktop new) ran.events liars last ran.apart leads broke right),
     )
 
 -- the step at a place may run out of memory

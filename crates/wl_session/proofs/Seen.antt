@@ -6,7 +6,6 @@ use Rattle.wl_blend.specs.declared.color.Rgb.{Rgb}
 use Rattle.wl_paint.specs.Frame.{Image, color_at}
 use Rattle.spec_desktop.specs.Happenings.{Happening, Message, Receive, Single, Starve}
 use Rattle.spec_desktop.specs.Act.{Connect, Feed, Store, Leave, Tick, Send, Close, Motion, Button}
-use Rattle.spec_desktop.specs.LeftOut.{LeftOut}
 use Rattle.spec_desktop.specs.Marks.{AreDistinct}
 use Rattle.spec_desktop.specs.Scratch.{scratch}
 use Rattle.spec_desktop.specs.Stacked.{all_windows}
@@ -26,14 +25,14 @@ use Rattle.wl_session.proofs.Stays.{both, covers-less, event-right, frame-right,
 
 -- ---- no surface has two windows in what happens from a desktop without clients on
 
-events-apart : (left : LeftOut) (from to : Moment) (events : List Event) → AreOrderly from.desktop → AreEvents left from events to → AreApart events
-events-apart left from to [] known leads = tt
-events-apart left from to (e ∷ es) known leads =
+events-apart : (from to : Moment) (events : List Event) → AreOrderly from.desktop → AreEvents from events to → AreApart events
+events-apart from to [] known leads = tt
+events-apart from to (e ∷ es) known leads =
     let began : AreOrderly e.before.desktop = subst (λ (m : Moment). AreOrderly m.desktop) (sym leads.0) known in
-    let later : AreOrderly e.after.desktop = leads-orderly left e.happening e.before.desktop e.path e.after.desktop began leads.1.leads in (
+    let later : AreOrderly e.after.desktop = leads-orderly e.happening e.before.desktop e.path e.after.desktop began leads.1.leads in (
       sound_is_distinct e.before.desktop (orderly-is-sound e.before.desktop began),
       sound_is_distinct e.after.desktop (orderly-is-sound e.after.desktop later),
-      events-apart left e.after to es later leads.2,
+      events-apart e.after to es later leads.2,
     )
 
 -- ---- a tick gives no number back
@@ -78,7 +77,7 @@ copied-holds e film sight shown shot held x y w h = at (in_runs film.runs x y) r
 
 -- ---- many events
 
-module _ (left : LeftOut) (width height : ℕ) (background : Rgb) (to : Moment) where
+module _ (width height : ℕ) (background : Rgb) (to : Moment) where
   -- the frame of a moment is of this kind
   record IsOf (image : Image) : Type 0 where
     wide : image.width ≡ width
@@ -98,7 +97,7 @@ module _ (left : LeftOut) (width height : ℕ) (background : Rgb) (to : Moment) 
   }
 
   -- What a viewer holds after a frame, where it held the one before and what is right but for some clients was so.
-  sees-frame : (frame : Event) (later : List Event) (films : List Film) (liars broke : ℕ → Bool) (sight : Sight) (x y : ℕ) → IsEvent left frame
+  sees-frame : (frame : Event) (later : List Event) (films : List Film) (liars broke : ℕ → Bool) (sight : Sight) (x y : ℕ) → IsEvent frame
       → AreDistinct (all_windows frame.before.desktop) × AreDistinct (all_windows frame.after.desktop) → is_frame frame.happening ≡ true
       → AreShots (frame ∷ frames_of later) films → HoldsLiars frame liars broke → IsRightBut liars frame.before → Holds sight frame.before.frame → IsOf frame.before.frame
       → x < width → y < height → is_covered all_windows broke frame.before.desktop (pos x) (pos y) ≡ false
@@ -107,7 +106,7 @@ module _ (left : LeftOut) (width height : ℕ) (background : Rgb) (to : Moment) 
   sees-frame frame later (film ∷ films) liars broke sight x y is apart tick shots holds right held kind w h clear =
       let shown : IsShown frame.before frame.path frame.after = subst (λ b. PaintsIf b frame.happening frame.before frame.path frame.after) tick is.paints in
       let copies = copied-holds frame film sight shown shots.0 held x y (rw (shown.frame.large.width, kind.wide) w) (rw (shown.frame.large.height, kind.high) h) in
-      let right_there = frame-right left frame liars broke is.leads apart holds right
+      let right_there = frame-right frame liars broke is.leads apart holds right
       (λ c honest. keeps-opaque frame.happening frame.before.desktop frame.after.desktop c tick (holds c honest).0) shown x y
       (rw (← right.wide, kind.wide) w) (rw (← right.high, kind.high) h)
       (covers-less (both liars broke) broke (pos x) (pos y) (all_windows frame.before.desktop) (still-liars frame liars broke tick holds) clear) in
@@ -115,7 +114,7 @@ module _ (left : LeftOut) (width height : ℕ) (background : Rgb) (to : Moment) 
 
   -- the same of each frame, after what came before it
   sees-each : (before : List Event) (frame : Event) (later : List Event) (from : Moment) (films : List Film) (liars broke : ℕ → Bool) (sight : Sight) (x y : ℕ)
-      → AreEvents left from (before ++ frame ∷ later) to → AreApart (before ++ frame ∷ later) → is_frame frame.happening ≡ true
+      → AreEvents from (before ++ frame ∷ later) to → AreApart (before ++ frame ∷ later) → is_frame frame.happening ≡ true
       → AreShots (frames_of (before ++ frame ∷ later)) films → AreLiars liars (before ++ frame ∷ []) broke → IsRightBut liars from → Holds sight from.frame → IsOf from.frame
       → x < width → y < height → is_covered all_windows broke frame.before.desktop (pos x) (pos y) ≡ false
       → fold (copied width) sight (take (length (frames_of (before ++ frame ∷ []))) films) x y ≡ scratch background frame.before.desktop (pos x) (pos y)
@@ -129,7 +128,7 @@ module _ (left : LeftOut) (width height : ℕ) (background : Rgb) (to : Moment) 
   sees-each (e ∷ es) frame later from films liars broke sight x y leads apart tick shots holds right held kind w h clear =
       let began : IsRightBut liars e.before × Holds sight e.before.frame × IsOf e.before.frame =
       subst (λ (m : Moment). IsRightBut liars m × Holds sight m.frame × IsOf m.frame) (sym leads.0) (right, held, kind) in
-      let after : IsRightBut holds.0 e.after = event-right left e liars holds.0 leads.1 (apart.0, apart.1) holds.1 began.0 in
+      let after : IsRightBut holds.0 e.after = event-right e liars holds.0 leads.1 (apart.0, apart.1) holds.1 began.0 in
       let kind_after : IsOf e.after.frame = of-next e began.2 (is_frame e.happening) leads.1.paints in
       by began
       (λ films sight held shots. sees-each es frame later e.after films holds.0 broke sight x y leads.2 apart.2 tick shots holds.2 after held kind_after w h clear)
@@ -149,7 +148,7 @@ module _ (left : LeftOut) (width height : ℕ) (background : Rgb) (to : Moment) 
           rest films sight (subst (λ (i : Image). Holds sight i) (sym marked.frame) began.1) shots
 
   -- a viewer that held the first frame holds the last one
-  holds-last : (events : List Event) (from : Moment) (films : List Film) (sight : Sight) → AreEvents left from events to → AreShots (frames_of events) films → Holds sight from.frame → IsOf from.frame
+  holds-last : (events : List Event) (from : Moment) (films : List Film) (sight : Sight) → AreEvents from events to → AreShots (frames_of events) films → Holds sight from.frame → IsOf from.frame
       → Holds (fold (copied width) sight (take (length (frames_of events)) films)) to.frame
   holds-last [] from films sight leads shots held kind = subst (λ (m : Moment). Holds sight m.frame) (sym leads) held
   holds-last (e ∷ es) from films sight leads shots held kind =
@@ -173,35 +172,35 @@ module _ (left : LeftOut) (width height : ℕ) (background : Rgb) (to : Moment) 
 -- ---- what a frame shows
 
 -- A frame shows the desktop as it began, painted from nothing, after whatever came before it.
-pub frame-scratch : (left : LeftOut) (past : List Event) (frame : Event) (from to : Moment) (liars broke : ℕ → Bool) → AreEvents left from (past ++ frame ∷ []) to → AreApart (past ++ frame ∷ [])
+pub frame-scratch : (past : List Event) (frame : Event) (from to : Moment) (liars broke : ℕ → Bool) → AreEvents from (past ++ frame ∷ []) to → AreApart (past ++ frame ∷ [])
     → is_frame frame.happening ≡ true
     → AreLiars liars (past ++ frame ∷ []) broke → IsRightBut liars from → (x y : ℕ) → x < frame.before.frame.width → y < frame.before.frame.height
     → is_covered all_windows broke frame.before.desktop (pos x) (pos y) ≡ false → color_at frame.after.frame x y ≡ scratch frame.before.frame.background frame.before.desktop (pos x) (pos y)
-frame-scratch left [] frame from to liars broke leads apart tick holds right x y w h clear =
+frame-scratch [] frame from to liars broke leads apart tick holds right x y w h clear =
     let at : IsRightBut liars frame.before = subst (λ (m : Moment). IsRightBut liars m) (sym leads.0) right in
     let more : (c : ℕ) → broke c ≡ false → holds.0 c ≡ false = holds.2 in
     let those : HoldsLiars frame liars broke = λ c honest. holds.1 c (more c honest) in
     let shown : IsShown frame.before frame.path frame.after = subst (λ b. PaintsIf b frame.happening frame.before frame.path frame.after) tick leads.1.paints in
-    frame-right left frame liars broke leads.1.leads (apart.0, apart.1) those at
+    frame-right frame liars broke leads.1.leads (apart.0, apart.1) those at
     (λ c honest. keeps-opaque frame.happening frame.before.desktop frame.after.desktop c tick (those c honest).0) shown x y (rw (← at.wide) w) (rw (← at.high) h)
     (covers-less (both liars broke) broke (pos x) (pos y) (all_windows frame.before.desktop) (still-liars frame liars broke tick those) clear)
-frame-scratch left (e ∷ es) frame from to liars broke leads apart tick holds right x y w h clear =
+frame-scratch (e ∷ es) frame from to liars broke leads apart tick holds right x y w h clear =
     let at : IsRightBut liars e.before = subst (λ (m : Moment). IsRightBut liars m) (sym leads.0) right in
-    frame-scratch left es frame e.after to holds.0 broke leads.2 apart.2 tick holds.2 (event-right left e liars holds.0 leads.1 (apart.0, apart.1) holds.1 at) x y w h clear
+    frame-scratch es frame e.after to holds.0 broke leads.2 apart.2 tick holds.2 (event-right e liars holds.0 leads.1 (apart.0, apart.1) holds.1 at) x y w h clear
 
-pub sees-scratch : (left : LeftOut) (from to : Moment) (events : List Event) (films : List Film) (liars : ℕ → Bool) (sight : Sight) → AreApart events → AreEvents left from events to
+pub sees-scratch : (from to : Moment) (events : List Event) (films : List Film) (liars : ℕ → Bool) (sight : Sight) → AreApart events → AreEvents from events to
     → AreShots (frames_of events) films
     → IsRightBut liars from → Holds sight from.frame → SeesScratch liars sight from.frame events films
-sees-scratch left from to events films liars sight apart leads shots right held before frame later broke x y same tick holds w h clear =
-    sees-each left from.frame.width from.frame.height from.frame.background to before frame later from films liars broke sight x y
-    (subst (λ es. AreEvents left from es to) same leads) (subst AreApart same apart) tick (subst (λ es. AreShots (frames_of es) films) same shots) holds right held
+sees-scratch from to events films liars sight apart leads shots right held before frame later broke x y same tick holds w h clear =
+    sees-each from.frame.width from.frame.height from.frame.background to before frame later from films liars broke sight x y
+    (subst (λ es. AreEvents from es to) same leads) (subst AreApart same apart) tick (subst (λ es. AreShots (frames_of es) films) same shots) holds right held
     (record { wide = refl; high = refl; over = refl }) w h clear
 
-pub holds-after : (left : LeftOut) (from to : Moment) (events : List Event) (films : List Film) (sight : Sight) → AreEvents left from events to → AreShots (frames_of events) films
+pub holds-after : (from to : Moment) (events : List Event) (films : List Film) (sight : Sight) → AreEvents from events to → AreShots (frames_of events) films
     → Holds sight from.frame → Holds (seen_after from.frame sight events films) to.frame
-holds-after left from to events films sight leads shots held =
-    holds-last left from.frame.width from.frame.height from.frame.background to events from films sight leads shots held (record { wide = refl; high = refl; over = refl })
+holds-after from to events films sight leads shots held =
+    holds-last from.frame.width from.frame.height from.frame.background to events from films sight leads shots held (record { wide = refl; high = refl; over = refl })
 
 pub seen_is_scratch : SeenIsScratch
-seen_is_scratch left output from to events films liars sight first leads shots right held =
-    sees-scratch left from to events films liars sight (events-apart left from to events (subst AreOrderly (sym first) (empty-orderly output)) leads) leads shots right held
+seen_is_scratch output from to events films liars sight first leads shots right held =
+    sees-scratch from to events films liars sight (events-apart from to events (subst AreOrderly (sym first) (empty-orderly output)) leads) leads shots right held

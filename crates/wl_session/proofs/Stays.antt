@@ -20,7 +20,6 @@ use Rattle.spec_desktop.specs.declared.answers.Done.TheVariants as gave
 use Rattle.spec_desktop.specs.Desktop.{Desktop, Resident, client_at, owned_in, owned_of}
 use Rattle.spec_desktop.specs.Happenings.{Happening, Leads, Message, Receive, Single, Starve}
 use Rattle.spec_desktop.specs.Happens.{ChangesThen}
-use Rattle.spec_desktop.specs.LeftOut.{LeftOut}
 use Rattle.spec_desktop.specs.Marks.{AreDistinct, in_output}
 use Rattle.spec_desktop.specs.Moments.{marks_at_least}
 use Rattle.spec_desktop.specs.Scratch.{color_in, scratch}
@@ -68,25 +67,25 @@ module _ (k : ℕ) (d : Desktop) (path : List Desktop) (new : Desktop) (done : D
   ended-goes (Some r) there (None, is, later) =
       ap (λ (x : Desktop). client_at k x) later.2.1 ∙ number-same d.clients k None r there
 
-closing : (left : LeftOut) (act : Act) (done : Done) (c : ℕ) (d : Desktop) (path : List Desktop) (new : Desktop) → Leads left (Single act done) d path new → closes act done c ≡ true
+closing : (act : Act) (done : Done) (c : ℕ) (d : Desktop) (path : List Desktop) (new : Desktop) → Leads (Single act done) d path new → closes act done c ≡ true
     → client_at c new ≡ None
-closing left Connect done c d path new h e = absurd (differ e)
-closing left (Feed client piece) done c d path new h e = absurd (differ e)
-closing left (Store client store at bytes) done c d path new h e = absurd (differ e)
-closing left (Leave client) done c d path new h e = absurd (differ e)
-closing left (Tick time) done c d path new h e = absurd (differ e)
-closing left (Send client count) done c d path new h e = absurd (differ e)
-closing left (Close client) done c d path new h e =
+closing Connect done c d path new h e = absurd (differ e)
+closing (Feed client piece) done c d path new h e = absurd (differ e)
+closing (Store client store at bytes) done c d path new h e = absurd (differ e)
+closing (Leave client) done c d path new h e = absurd (differ e)
+closing (Tick time) done c d path new h e = absurd (differ e)
+closing (Send client count) done c d path new h e = absurd (differ e)
+closing (Close client) done c d path new h e =
     subst (λ n. client_at n new ≡ None) (eqb-true client c (and-right (was_closed done) (client == c) e))
     (ended-goes client d path new done (and-left (was_closed done) (client == c) e) (client_at client d) refl h)
-closing left (Motion time x y) done c d path new h e = absurd (differ e)
-closing left (Button time button pressed) done c d path new h e = absurd (differ e)
+closing (Motion time x y) done c d path new h e = absurd (differ e)
+closing (Button time button pressed) done c d path new h e = absurd (differ e)
 
-pub given-back : (left : LeftOut) (h : Happening) (c : ℕ) (d : Desktop) (path : List Desktop) (new : Desktop) → Leads left h d path new → gives_back h c ≡ true → client_at c new ≡ None
-given-back left (Receive client piece) c d path new leads e = absurd (differ e)
-given-back left (Message client) c d path new leads e = absurd (differ e)
-given-back left (Starve client) c d path new leads e = absurd (differ e)
-given-back left (Single act done) c d path new leads e = closing left act done c d path new leads e
+pub given-back : (h : Happening) (c : ℕ) (d : Desktop) (path : List Desktop) (new : Desktop) → Leads h d path new → gives_back h c ≡ true → client_at c new ≡ None
+given-back (Receive client piece) c d path new leads e = absurd (differ e)
+given-back (Message client) c d path new leads e = absurd (differ e)
+given-back (Starve client) c d path new leads e = absurd (differ e)
+given-back (Single act done) c d path new leads e = closing act done c d path new leads e
 
 -- ---- what is covered
 
@@ -145,7 +144,7 @@ or-none : (a b : Bool) → (a || b) ≡ false → b ≡ false
 or-none true b e = absurd (differ (sym e))
 or-none false b e = e
 
-module _ (left : LeftOut) (e : Event) (liars next : ℕ → Bool) (leads : Leads left e.happening e.before.desktop e.path e.after.desktop)
+module _ (e : Event) (liars next : ℕ → Bool) (leads : Leads e.happening e.before.desktop e.path e.after.desktop)
     (apart : AreDistinct (all_windows e.before.desktop) × AreDistinct (all_windows e.after.desktop)) (broke : HoldsLiars e liars next) (right : IsRightBut liars e.before) where
   abbrev old : Desktop
   old = e.before.desktop
@@ -154,7 +153,7 @@ module _ (left : LeftOut) (e : Event) (liars next : ℕ → Bool) (leads : Leads
   new = e.after.desktop
 
   same-output : new.output ≡ old.output
-  same-output = leads-output left e.happening old e.path new leads
+  same-output = leads-output e.happening old e.path new leads
 
   inside : (x y : ℕ) → x < old.output.width → y < old.output.height → in_output old.output.width old.output.height (pos x) (pos y) ≡ true
   inside x y w h = within-output old.output.width old.output.height x y w h
@@ -162,7 +161,7 @@ module _ (left : LeftOut) (e : Event) (liars next : ℕ → Bool) (leads : Leads
   -- At a point that isn't marked and that those don't cover afterwards, nobody covered it before, and the desktop looks as before.
   covered-none : (x y : ℕ) → is_covered all_windows next new (pos x) (pos y) ≡ false → is_covered all_windows (both liars next) new (pos x) (pos y) ≡ false
   covered-none x y clear =
-      covers-both liars next (pos x) (pos y) (all_windows new) clear (λ c b a. no-window c new (given-back left e.happening c old e.path new leads ((broke c a).1 b)))
+      covers-both liars next (pos x) (pos y) (all_windows new) clear (λ c b a. no-window c new (given-back e.happening c old e.path new leads ((broke c a).1 b)))
 
   covered-before : (x y : ℕ) → x < old.output.width → y < old.output.height → marks_at_least old new (pos x) (pos y) ≡ false → is_covered all_windows next new (pos x) (pos y) ≡ false
       → is_covered all_windows (both liars next) old (pos x) (pos y) ≡ false
@@ -173,7 +172,7 @@ module _ (left : LeftOut) (e : Event) (liars next : ℕ → Bool) (leads : Leads
       → scratch background old (pos x) (pos y) ≡ scratch background new (pos x) (pos y)
   looks-same background x y w h unmarked clear =
       unmarked_stays all_windows (both liars next) background old new (pos x) (pos y) apart
-      (promises_are_enough left (both liars next) e.happening old e.path new leads (λ c honest. (broke c (or-none (liars c) (next c) honest)).0))
+      (promises_are_enough (both liars next) e.happening old e.path new leads (λ c honest. (broke c (or-none (liars c) (next c) honest)).0))
       (inside x y w h) unmarked (covered-before x y w h unmarked clear) (covered-none x y clear)
 
   was-clear : (x y : ℕ) → is_covered all_windows (both liars next) old (pos x) (pos y) ≡ false → is_covered all_windows liars old (pos x) (pos y) ≡ false
@@ -273,19 +272,19 @@ keeps-opaque (Single (Close client) done) old new c e keeps = absurd (differ e)
 keeps-opaque (Single (Motion time x y) done) old new c e keeps = absurd (differ e)
 keeps-opaque (Single (Button time button pressed) done) old new c e keeps = absurd (differ e)
 
-pub event-right : (left : LeftOut) (e : Event) (liars next : ℕ → Bool) → IsEvent left e → AreDistinct (all_windows e.before.desktop) × AreDistinct (all_windows e.after.desktop)
+pub event-right : (e : Event) (liars next : ℕ → Bool) → IsEvent e → AreDistinct (all_windows e.before.desktop) × AreDistinct (all_windows e.after.desktop)
     → HoldsLiars e liars next
     → IsRightBut liars e.before → IsRightBut next e.after
-event-right left e liars next is apart broke right = by (is_frame e.happening) refl is.paints
+event-right e liars next is apart broke right = by (is_frame e.happening) refl is.paints
   where
     by : (b : Bool) → is_frame e.happening ≡ b → PaintsIf b e.happening e.before e.path e.after → IsRightBut next e.after
-    by true f shown = shown-right left e liars next is.leads apart broke right (λ c honest. keeps-opaque e.happening e.before.desktop e.after.desktop c f (broke c honest).0) shown
-    by false f marked = marked-right left e liars next is.leads apart broke right marked
+    by true f shown = shown-right e liars next is.leads apart broke right (λ c honest. keeps-opaque e.happening e.before.desktop e.after.desktop c f (broke c honest).0) shown
+    by false f marked = marked-right e liars next is.leads apart broke right marked
 
 -- ---- many events
 
 pub stays_right : StaysRight
-stays_right left from to [] liars last apart leads broke right = subst (λ (m : Moment). IsRightBut last m) (sym leads) (right-less liars last from broke right)
-stays_right left from to (e ∷ es) liars last apart leads broke right =
+stays_right from to [] liars last apart leads broke right = subst (λ (m : Moment). IsRightBut last m) (sym leads) (right-less liars last from broke right)
+stays_right from to (e ∷ es) liars last apart leads broke right =
     let began : IsRightBut liars e.before = subst (λ (m : Moment). IsRightBut liars m) (sym leads.0) right in
-    stays_right left e.after to es broke.0 last apart.2 leads.2 broke.2 (event-right left e liars broke.0 leads.1 (apart.0, apart.1) broke.1 began)
+    stays_right e.after to es broke.0 last apart.2 leads.2 broke.2 (event-right e liars broke.0 leads.1 (apart.0, apart.1) broke.1 began)

@@ -222,6 +222,6 @@ hides-nothing shown old new c here there keeps = λ x y.
     (windows_by shown c new) after)
 
 pub write_hides_nothing : WriteHidesNothing
-write_hides_nothing left old new client store at c bytes done step keeps =
+write_hides_nothing old new client store at c bytes done step keeps =
     hides-nothing all_windows old new c (all-shown old) (all-shown new)
     (kept-by c old new (owned-after client store at c bytes (client_at client old) old new done refl step) keeps)

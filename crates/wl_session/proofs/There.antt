@@ -12,7 +12,6 @@ use Rattle.spec_desktop.specs.Changing.{changed_for}
 use Rattle.spec_desktop.specs.Demand.{Demand}
 use Rattle.spec_desktop.specs.Desktop.{Desktop, Resident, become_by, client_at, client_in, resident_of, toplevels_of}
 use Rattle.spec_desktop.specs.Happens.{AnswersThen, BecomesThen, DoesThen, Reaches, ServesThen, TakesThen, WantsOrThen, changed_so, done_for, settling, wants_memory}
-use Rattle.spec_desktop.specs.LeftOut.{LeftOut}
 use Rattle.spec_desktop.specs.Settling.{EndsAndSettles, Midstep, Strike, after_status, becomes, unstruck}
 use Rattle.spec_desktop.specs.Step.{with_peer}
 use Rattle.law_desktop.proofs.Isolation.Settling.{AreIn, IsIn, PAt, Stays, settling-in}
@@ -82,35 +81,35 @@ module _ (c : ℕ) where
 
   -- ---- its messages
 
-  module _ (left : LeftOut) (new : Desktop) where
+  module _ (new : Desktop) where
     became : (Q : Peer → Type 0) (r : Resident) (d : Desktop) → IsThere c d → BecomesThen Q c r d (settling new) → IsThere c new
     became Q r d there h = settles-there (unstruck (becomes c r h.0 d)) new (becomes-there r there.0 h.0 d there.1) h.2
 
-    did : (demand : Demand) (r : Resident) (d : Desktop) → IsThere c d → DoesThen left c demand r d (settling new) → IsThere c new
+    did : (demand : Demand) (r : Resident) (d : Desktop) → IsThere c d → DoesThen c demand r d (settling new) → IsThere c new
     did demand r d there h =
         let now : Resident = with_peer h.0 (changed_for c demand r d) in
         let on : Desktop = done_for c demand r d in
         let is : client_at c on ≡ Some there.0 = ap (λ (clients : List (Option Resident)). client_in clients c) (done-clients_stay c demand r d) ∙ there.1 in
         settles-there (changed_so c demand r d h.0 h.1) new (now, number-same on.clients c (Some now) there.0 is) h.3
 
-    wanted : (b : Bool) (demand : Demand) (r : Resident) (d : Desktop) → IsThere c d → WantsOrThen b (DoesThen left c demand r d (settling new)) c r d (settling new) → IsThere c new
+    wanted : (b : Bool) (demand : Demand) (r : Resident) (d : Desktop) → IsThere c d → WantsOrThen b (DoesThen c demand r d (settling new)) c r d (settling new) → IsThere c new
     wanted false demand r d there h = did demand r d there h
     wanted true demand r d there (inl h) = became (LacksMemory r.peer) r d there h
     wanted true demand r d there (inr h) = did demand r d there h
 
-    answered : (judged : Result Demand Refusal) (r : Resident) (d : Desktop) → IsThere c d → AnswersThen left judged c r d (settling new) → IsThere c new
+    answered : (judged : Result Demand Refusal) (r : Resident) (d : Desktop) → IsThere c d → AnswersThen judged c r d (settling new) → IsThere c new
     answered (Ok demand) r d there h = wanted (wants_memory demand) demand (with_peer (counted r.peer) r) d there h
     answered (Err refusal) r d there h = became _ r d there h
 
-    took : (split : Split) (r : Resident) (d : Desktop) → IsThere c d → TakesThen left split c r d (settling new) → IsThere c new
+    took : (split : Split) (r : Resident) (d : Desktop) → IsThere c d → TakesThen split c r d (settling new) → IsThere c new
     took (Message object opcode size) r d there h = answered _ _ d there h
     took Bad r d there h = became _ r d there h
     took More r d there h = absurd h
 
-    pub serves-there : (o : Option Resident) (d : Desktop) → IsThere c d → ServesThen left c o d (settling new) → IsThere c new
+    pub serves-there : (o : Option Resident) (d : Desktop) → IsThere c d → ServesThen c o d (settling new) → IsThere c new
     serves-there None d there h = absurd h
     serves-there (Some r) d there h = took (split_of r.peer.rest) r d there h.1
 
-  pub reaches-there : (left : LeftOut) (n : ℕ) (d new : Desktop) → IsThere c d → Reaches left c n d new → IsThere c new
-  reaches-there left zero d new there h = (there.0, ap (λ (x : Desktop). client_at c x) h ∙ there.1)
-  reaches-there left (suc n) d new there h = serves-there left new (client_at c h.0) h.0 (reaches-there left n d h.0 there h.1) h.2
+  pub reaches-there : (n : ℕ) (d new : Desktop) → IsThere c d → Reaches c n d new → IsThere c new
+  reaches-there zero d new there h = (there.0, ap (λ (x : Desktop). client_at c x) h ∙ there.1)
+  reaches-there (suc n) d new there h = serves-there new (client_at c h.0) h.0 (reaches-there n d h.0 there h.1) h.2

@@ -21,7 +21,6 @@ use Rattle.spec_desktop.specs.Changing.{drawing, grab_holder, holds_grab}
 use Rattle.spec_desktop.specs.Demand.{Move}
 use Rattle.spec_desktop.specs.Desktop.{Desktop, Resident, client_at, toplevels_of}
 use Rattle.spec_desktop.specs.Happens.{Happens, point_in}
-use Rattle.spec_desktop.specs.LeftOut.{LeftOut}
 use Rattle.spec_desktop.specs.Pointing.{button_told, entered_surface, has_pointers, left_surface, motion_told}
 use Rattle.spec_desktop.specs.Replies.{popups_done}
 use Rattle.spec_desktop.specs.Settling.{QueuesTo, leave_drawn, noted_if, number_of, told_drawn, without_grabs}
@@ -191,25 +190,25 @@ module _ (other : ℕ) (old : Desktop) (nowhere : old.pointer ≡ first_pointer)
   nobody (Some k) new done none (inr h) = absurd (none-some (k + 1) (sym none ∙ ap (client_of Connect) h.0))
 
   -- what happens that is no client's step, and no frame, leaves the client as it was
-  no-client : (left : LeftOut) (act : Act) (new : Desktop) (done : Done) → is_tick act ≡ false → client_of act done ≡ None → Happens left act done old new → IsLeft other old new
-  no-client left Connect new done untimed none h = same-left other old new (nobody (lowest old.clients) new done none h)
-  no-client left (Tick time) new done untimed none h = absurd (true≢false untimed)
-  no-client left (Motion time x y) new done untimed none h = moves-same time x y new h.1
-  no-client left (Button time button pressed) new done untimed none h = buttons-same pressed time button new h.1
-  no-client left (Feed c piece) new done untimed none h = absurd (none-some c (sym none))
-  no-client left (Store c store at bytes) new done untimed none h = absurd (none-some c (sym none))
-  no-client left (Leave c) new done untimed none h = absurd (none-some c (sym none))
-  no-client left (Send c n) new done untimed none h = absurd (none-some c (sym none))
-  no-client left (Close c) new done untimed none h = absurd (none-some c (sym none))
+  no-client : (act : Act) (new : Desktop) (done : Done) → is_tick act ≡ false → client_of act done ≡ None → Happens act done old new → IsLeft other old new
+  no-client Connect new done untimed none h = same-left other old new (nobody (lowest old.clients) new done none h)
+  no-client (Tick time) new done untimed none h = absurd (true≢false untimed)
+  no-client (Motion time x y) new done untimed none h = moves-same time x y new h.1
+  no-client (Button time button pressed) new done untimed none h = buttons-same pressed time button new h.1
+  no-client (Feed c piece) new done untimed none h = absurd (none-some c (sym none))
+  no-client (Store c store at bytes) new done untimed none h = absurd (none-some c (sym none))
+  no-client (Leave c) new done untimed none h = absurd (none-some c (sym none))
+  no-client (Send c n) new done untimed none h = absurd (none-some c (sym none))
+  no-client (Close c) new done untimed none h = absurd (none-some c (sym none))
 
   -- whatever happens
-  bare-stays : (left : LeftOut) (act : Act) (done : Done) (new : Desktop) → is_tick act ≡ false → Happens left act done old new → client_of act done ≢ Some other → IsLeft other old new
-  bare-stays left act done new untimed h apart = at (client_of act done) refl
+  bare-stays : (act : Act) (done : Done) (new : Desktop) → is_tick act ≡ false → Happens act done old new → client_of act done ≢ Some other → IsLeft other old new
+  bare-stays act done new untimed h apart = at (client_of act done) refl
     where
       at : (o : Option ℕ) → client_of act done ≡ o → IsLeft other old new
-      at (Some c) e = alone-same other old new none-has (others_are_left_alone left act done c other old new e h (λ same. apart (e ∙ ap Some same)))
-      at None e = no-client left act new done untimed e h
+      at (Some c) e = alone-same other old new none-has (others_are_left_alone act done c other old new e h (λ same. apart (e ∙ ap Some same)))
+      at None e = no-client act new done untimed e h
 
 pub others_stay : OthersStay
-others_stay left act done old new other untimed nowhere (inl leaves) h apart = unpointed-stay left act done old new other untimed leaves nowhere h apart
-others_stay left act done old new other untimed nowhere (inr bare) h apart = bare-stays other old nowhere bare.1 bare.0 left act done new untimed h apart
+others_stay act done old new other untimed nowhere (inl leaves) h apart = unpointed-stay act done old new other untimed leaves nowhere h apart
+others_stay act done old new other untimed nowhere (inr bare) h apart = bare-stays other old nowhere bare.1 bare.0 act done new untimed h apart

@@ -5,7 +5,6 @@ use Rattle.spec_desktop.specs.Act.{Act, Connect, Feed, Store, Leave, Tick, Send,
 use Rattle.spec_desktop.specs.Desktop.{Desktop}
 use Rattle.spec_desktop.specs.Happenings.{Happening, Message, Single, Starve, bytes_then_messages}
 use Rattle.spec_desktop.specs.Happens.{Happens, Reaches}
-use Rattle.spec_desktop.specs.LeftOut.{LeftOut, nothing_left_out}
 use Rattle.spec_desktop.specs.declared.answers.Done.{Done}
 use Rattle.wl_session.specs.Events.{AreApart, AreEvents, Event, Moment, frames_of}
 use Rattle.wl_session.specs.Liars.{AreLiars, IsRightBut}
@@ -40,9 +39,9 @@ happenings events = map (λ e. e.happening) events
 pub record Course (act : Act) (done : Done) (old new : SessionView) (d : Desktop) : Type 0 where
   pub desktop : Desktop
   pub events : List Event
-  pub happens : Happens nothing_left_out act done d desktop
+  pub happens : Happens act done d desktop
   pub parts : AreParts act done (happenings events)
-  pub leads : AreEvents nothing_left_out (moment d old) events (moment desktop new)
+  pub leads : AreEvents (moment d old) events (moment desktop new)
   pub apart : AreApart events
   pub right : (liars last : ℕ → Bool) → AreLiars liars events last → IsRightBut liars (moment d old) → IsRightBut last (moment desktop new)
   pub agrees : Agrees new.desk desktop
@@ -55,9 +54,9 @@ pub record Took (client : ℕ) (old new : SessionView) (d : Desktop) : Type 0 wh
   pub count : ℕ
   pub desktop : Desktop
   pub events : List Event
-  pub reaches : Reaches nothing_left_out client count d desktop
+  pub reaches : Reaches client count d desktop
   pub parts : happenings events ≡ replicate count (Message client)
-  pub leads : AreEvents nothing_left_out (moment d old) events (moment desktop new)
+  pub leads : AreEvents (moment d old) events (moment desktop new)
   pub apart : AreApart events
   pub agrees : Agrees new.desk desktop
 
@@ -67,18 +66,18 @@ LeadsTo act films old new =
     (d : Desktop) → Agrees old.desk d → (done : Done) × (course : Course act done old new d) × AreShots (frames_of course.events) films
 
 -- Steps one after another, each with its events, from one moment to another.
-abbrev pub Runs : LeftOut → Moment → List Act → List Event → Moment → Type 0
-Runs left from [] events to = (events ≡ []) × (to ≡ from)
-Runs left from (act ∷ acts) events to =
+abbrev pub Runs : Moment → List Act → List Event → Moment → Type 0
+Runs from [] events to = (events ≡ []) × (to ≡ from)
+Runs from (act ∷ acts) events to =
     (mid : Moment) × (done : Done) × (first : List Event) × (later : List Event)
-    × Happens left act done from.desktop mid.desktop × AreParts act done (happenings first) × AreEvents left from first mid
-    × (events ≡ first ++ later) × Runs left mid acts later to
+    × Happens act done from.desktop mid.desktop × AreParts act done (happenings first) × AreEvents from first mid
+    × (events ≡ first ++ later) × Runs mid acts later to
 
 -- These steps lead a session on, and these are the reports of their frames.
 pub record Ran (acts : List Act) (films : List Film) (old new : SessionView) (d : Desktop) : Type 0 where
   pub desktop : Desktop
   pub events : List Event
-  pub runs : Runs nothing_left_out (moment d old) acts events (moment desktop new)
+  pub runs : Runs (moment d old) acts events (moment desktop new)
   pub apart : AreApart events
   pub shots : AreShots (frames_of events) films
   pub agrees : Agrees new.desk desktop

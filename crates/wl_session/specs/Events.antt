@@ -6,7 +6,6 @@ use Rattle.spec_desktop.specs.Act.{Act, Connect, Feed, Store, Leave, Tick, Send,
 pub use Rattle.spec_desktop.specs.Act.{is_tick}
 use Rattle.spec_desktop.specs.Desktop.{Desktop, status_in}
 use Rattle.spec_desktop.specs.Happenings.{Happening, Leads, Message, Receive, Single, Starve}
-use Rattle.spec_desktop.specs.LeftOut.{LeftOut}
 use Rattle.spec_desktop.specs.Marks.{AreDistinct}
 use Rattle.spec_desktop.specs.Moments.{marks_at_least, marks_at_least_through, marks_at_most_through}
 use Rattle.spec_desktop.specs.Stacked.{all_windows}
@@ -104,14 +103,14 @@ PaintsIf true happening before path after = IsShown before path after
 PaintsIf false happening before path after = IsMarked happening before path after
 
 -- It may happen, marks what it has to, and shows a frame where it is a tick.
-pub record IsEvent (left : LeftOut) (e : Event) : Type 0 where
-  pub leads : Leads left e.happening e.before.desktop e.path e.after.desktop
+pub record IsEvent (e : Event) : Type 0 where
+  pub leads : Leads e.happening e.before.desktop e.path e.after.desktop
   pub paints : PaintsIf (is_frame e.happening) e.happening e.before e.path e.after
 
 -- events one after another, from one moment to another
-abbrev pub AreEvents : LeftOut → Moment → List Event → Moment → Type 0
-AreEvents left from [] to = to ≡ from
-AreEvents left from (e ∷ es) to = (e.before ≡ from) × IsEvent left e × AreEvents left e.after es to
+abbrev pub AreEvents : Moment → List Event → Moment → Type 0
+AreEvents from [] to = to ≡ from
+AreEvents from (e ∷ es) to = (e.before ≡ from) × IsEvent e × AreEvents e.after es to
 
 -- no surface has two windows, before each of these events and after it
 abbrev pub AreApart : List Event → Type 0

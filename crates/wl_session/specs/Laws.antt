@@ -3,7 +3,6 @@ use Rattle.std.specs.Prelude.{ℕ, ◌≡◌, ◌≢◌, ◌⊎◌, false, [], O
 use Rattle.spec_desktop.specs.Pointer.{first_pointer}
 use Rattle.spec_desktop.specs.Changing.{grab_holder}
 use Rattle.spec_desktop.specs.Desktop.{Desktop, Resident, client_at, toplevels_of}
-use Rattle.spec_desktop.specs.LeftOut.{LeftOut}
 use Rattle.spec_desktop.specs.declared.answers.Done.{Done}
 use Rattle.spec_desktop.specs.Act.{Act, is_tick}
 use Rattle.spec_desktop.specs.Happens.{Happens}
@@ -16,16 +15,16 @@ HasNoPointers None = Unit {0}
 HasNoPointers (Some r) = r.pointers ≡ []
 
 -- Whatever happens but a frame leaves each client that it isn't a step of as it was: its status, requests, objects, serials, unsent bytes
--- and rest, what it owns, with its popups, and the places and the order of its toplevels; where nobody points, and whatever is left out. So
+-- and rest, what it owns, with its popups, and the places and the order of its toplevels; where nobody points. So
 -- it is whatever the client has where the pointer is left alone; and what a motion and a button leave of each client without wl_pointers,
 -- where no client holds a grab.
 abbrev pub OthersStay : Type 0
 OthersStay =
-    (left : LeftOut) (act : Act) (done : Done) (old new : Desktop) (other : ℕ) → is_tick act ≡ false → old.pointer ≡ first_pointer
-    → LeavesPointer act ⊎ (HasNoPointers (client_at other old) × (grab_holder old ≡ None)) → Happens left act done old new
+    (act : Act) (done : Done) (old new : Desktop) (other : ℕ) → is_tick act ≡ false → old.pointer ≡ first_pointer
+    → LeavesPointer act ⊎ (HasNoPointers (client_at other old) × (grab_holder old ≡ None)) → Happens act done old new
     → client_of act done ≢ Some other
     → (client_at other new ≡ client_at other old) × (toplevels_of other new ≡ toplevels_of other old)
 
 -- Whatever happens leaves the output as it was.
 abbrev pub OutputStays : Type 0
-OutputStays = (left : LeftOut) (act : Act) (done : Done) (old new : Desktop) → Happens left act done old new → new.output ≡ old.output
+OutputStays = (act : Act) (done : Done) (old new : Desktop) → Happens act done old new → new.output ≡ old.output

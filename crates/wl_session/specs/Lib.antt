@@ -12,11 +12,12 @@ pub mod View
 pub mod Viewer
 pub use Rattle.spec_desktop.specs.Act
 pub use Rattle.spec_desktop.specs.Desktop
-pub use Rattle.spec_desktop.specs.LeftOut
 pub use Rattle.spec_desktop.specs.Peer
+pub use Rattle.wl_client.specs.declared.config.Config
 pub use Rattle.wl_desk.specs.Agreeing
 pub use Rattle.wl_desk.specs.Agreement
 pub use Rattle.wl_desk.specs.NextStore
+pub use Rattle.wl_desk.specs.Shown
 pub use Rattle.wl_paint.specs.Damage
 pub use Rattle.wl_paint.specs.Frame
 pub use Rattle.wl_paint.specs.Image

@@ -6,7 +6,6 @@ use Rattle.wl_paint.specs.Frame.{Image, color_at}
 use Rattle.spec_desktop.specs.Act.{Tick}
 use Rattle.spec_desktop.specs.Desktop.{empty}
 use Rattle.spec_desktop.specs.Happenings.{Single}
-use Rattle.spec_desktop.specs.LeftOut.{LeftOut}
 use Rattle.spec_desktop.specs.Scratch.{scratch}
 use Rattle.spec_desktop.specs.Stacked.{all_windows}
 use Rattle.spec_desktop.specs.declared.answers.Done.TheVariants as gave
@@ -47,18 +46,18 @@ SeesScratch liars sight first events films =
     → x < first.width → y < first.height → is_covered all_windows broke frame.before.desktop (pos x) (pos y) ≡ false
     → seen_after first sight (before ++ frame ∷ []) films x y ≡ scratch first.background frame.before.desktop (pos x) (pos y)
 
--- ---- laws, whatever is left out
+-- ---- laws
 
 -- What is right but for some clients stays so but for them and those that break a promise, where no surface has two windows.
 abbrev pub StaysRight : Type 0
 StaysRight =
-    (left : LeftOut) (from to : Moment) (events : List Event) (liars last : ℕ → Bool)
-    → AreApart events → AreEvents left from events to → AreLiars liars events last → IsRightBut liars from → IsRightBut last to
+    (from to : Moment) (events : List Event) (liars last : ℕ → Bool)
+    → AreApart events → AreEvents from events to → AreLiars liars events last → IsRightBut liars from → IsRightBut last to
 
 -- Whatever happens from a desktop without clients on, a viewer sees each frame painted from nothing.
 abbrev pub SeenIsScratch : Type 0
 SeenIsScratch =
-    (left : LeftOut) (output : Output) (from to : Moment) (events : List Event) (films : List Film) (liars : ℕ → Bool) (sight : Sight)
-    → from.desktop ≡ empty output → AreEvents left from events to → AreShots (frames_of events) films
+    (output : Output) (from to : Moment) (events : List Event) (films : List Film) (liars : ℕ → Bool) (sight : Sight)
+    → from.desktop ≡ empty output → AreEvents from events to → AreShots (frames_of events) films
     → IsRightBut liars from → Holds sight from.frame
     → SeesScratch liars sight from.frame events films

@@ -23,7 +23,7 @@ pub fn unmarked_stays()
     ensures { UnmarkedStays }
 {}
 
-/// In whatever may happen, one message at a time and whatever is left out, whoever keeps its promises hides no change (wayland.xml, wl_surface.damage and
+/// In whatever may happen, one message at a time, whoever keeps its promises hides no change (wayland.xml, wl_surface.damage and
 /// wl_buffer.release).
 pub fn promises_are_enough()
     ensures { PromisesAreEnough }
@@ -40,7 +40,7 @@ pub fn stays_right()
     ensures { StaysRight }
 {}
 
-/// Whatever happens from a desktop without clients on, one event at a time and whatever is left out: at each frame a viewer that copied only what
+/// Whatever happens from a desktop without clients on, one event at a time: at each frame a viewer that copied only what
 /// each frame reported holds every window, subsurfaces and popups too, painted from nothing in stacking order, but where a window of a client
 /// that broke its promises covers it.
 pub fn seen_is_scratch()

@@ -3,17 +3,19 @@
 
 mod laws;
 mod sessions;
+mod settling;
 mod shots;
+mod shown;
 mod steps;
 
 pub use laws::{
     others_stay, output_stays, promises_are_enough, seen_is_scratch, stays_right, unmarked_stays,
     write_hides_nothing,
 };
-pub use sessions::{Config, Session};
+pub use sessions::{Session, runs_of};
 pub use shots::{Frame, Run, Shot};
 pub use steps::{RunError, Step};
 pub use wl_blend::Rgb;
-pub use wl_client::{Cause, StoreNo};
-pub use wl_desk::{ClientNo, ConnectError, Done, Fed, MAX_CLIENTS, Stored};
+pub use wl_client::{Cause, Config, StoreNo};
+pub use wl_desk::{ClientNo, ConnectError, Done, Fed, MAX_CLIENTS, ShownWindow, Stored};
 pub use wl_paint::{Damage, FrameError, Framebuffer, MAX_SIDE, write_ppm};

@@ -16,31 +16,20 @@ ghost use Rattle.wl_session.specs.Step.{act_of};
 ghost use Rattle.wl_desk.specs.Agreeing.{Agrees, TakesStep};
 ghost use Rattle.wl_session.specs.Course.{Took};
 
+use crate::settling::{end_all, settle_all};
 use crate::shots::{Frame, Run, Shot};
 use crate::steps::{RunError, Step};
 use std::alloc::{AllocError, Allocator};
 use std::marker::Model;
-use wl_blend::Rgb;
-use wl_client::{Output, Served, StoreNo};
+use wl_client::{Config, Served, StoreNo};
 use wl_desk::{ClientNo, ConnectError, Desk, Done, Fed, Stored};
 use wl_paint::{Damage, FrameError, Framebuffer};
-
-/// What a session is made with.
-#[derive(Clone, Copy, Debug, PartialEq, Eq)]
-pub struct Config {
-    /// The output's width in pixels, 1 to 4,096.
-    pub width: u32,
-    /// The output's height in pixels, 1 to 4,096.
-    pub height: u32,
-    /// The colour where no window is.
-    pub background: Rgb,
-}
 
 /// All clients and the last frame. It is seen as the output with what is kept of each client, by number
 /// from 1, what is to be painted again since the last frame, that frame, and what was painted for it.
 #[derive(Drop)]
 pub struct Session<A: Allocator> {
-    desk: Desk<A>,
+    pub(crate) desk: Desk<A>,
     framebuffer: Framebuffer<A>,
     painted: Damage<A>,
     alloc: A,
@@ -81,11 +70,7 @@ impl<A: Allocator + Copy> Session<A> {
         let Ok(painted) = Damage::new(alloc, config.width, config.height) else {
             return Err(FrameError::Memory);
         };
-        let output = Output {
-            width: config.width,
-            height: config.height,
-        };
-        let desk = Desk::new(alloc, output)?;
+        let desk = Desk::new(alloc, config)?;
         Ok(Session {
             desk,
             framebuffer,
@@ -113,7 +98,10 @@ impl<A: Allocator + Copy> Session<A> {
     {
         match self.desk.keep(client, piece) {
             Ok(()) => self.serve_all(client),
-            Err(AllocError) => self.desk.starve(client),
+            Err(AllocError) => {
+                self.desk.starve(client);
+                settle_all(&mut self.desk);
+            }
         }
         self.status(client)
     }
@@ -123,7 +111,9 @@ impl<A: Allocator + Copy> Session<A> {
         ensures serves { (d : Desktop) → Agrees self.old.desk d → (served : Took client self.old self.new d) × IsIdleIn client served.desktop }
         ensures frame { self.new.frame ≡ self.old.frame }
     {
-        while self.desk.serve(client) != Served::More {}
+        while self.desk.serve(client) != Served::More {
+            end_all(&mut self.desk);
+        }
     }
 
     /// Puts bytes into a client's store, from `at` on: its k-th pool has the store k. `NoClient` for an ended client too, then
@@ -158,7 +148,11 @@ impl<A: Allocator + Copy> Session<A> {
         ensures course { TakesCourse (Leave client) (Done.Gone result) self.old self.new }
         ensures frame { self.new.frame ≡ self.old.frame }
     {
-        self.desk.gone(client)
+        if !self.desk.gone(client) {
+            return false;
+        }
+        settle_all(&mut self.desk);
+        true
     }
 
     /// So many of a client's unsent bytes were sent. False and unchanged where there are fewer.
@@ -207,6 +201,7 @@ impl<A: Allocator + Copy> Session<A> {
         self.desk.paint(&mut self.framebuffer);
         self.desk.take_damage(&mut self.painted);
         self.desk.frames(time);
+        settle_all(&mut self.desk);
         self.frame(time)
     }
 
@@ -232,6 +227,7 @@ impl<A: Allocator + Copy> Session<A> {
         ensures frame { self.new.frame ≡ self.old.frame }
     {
         self.desk.motion(time, x, y);
+        end_all(&mut self.desk);
     }
 
     /// A button of the pointer, by the kernel's number of it, is pressed or released at a time in milliseconds. The surface that has the focus is
@@ -244,6 +240,7 @@ impl<A: Allocator + Copy> Session<A> {
         ensures frame { self.new.frame ≡ self.old.frame }
     {
         self.desk.button(time, button, pressed);
+        end_all(&mut self.desk);
     }
 
     /// Any one step. A tick's frame isn't given back.
@@ -361,7 +358,7 @@ impl<A: Allocator + Copy> Session<A> {
 }
 
 /// The runs of what is damaged in the rows of so high an output, row by row from the top.
-fn runs_of<A: Allocator>(
+pub fn runs_of<A: Allocator>(
     alloc: A,
     damage: &Damage<A>,
     height: u32,

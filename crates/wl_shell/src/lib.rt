@@ -26,7 +26,7 @@ pub use error::ShellError;
 pub use popup::Popup;
 pub use positioner::Positioner;
 pub use settings::Setting;
-pub use shell::{NewPopup, Shell};
+pub use shell::{NewPopup, PopupNo, Shell};
 pub use stage::Stage;
 pub use xdg_surface::{Toplevel, XdgSurface};
 

@@ -20,6 +20,9 @@ use std::marker::Model;
 use wl_geom::Rect;
 use wl_surface::SurfaceNo;
 
+/// The number of a popup: that of its surface, since a surface has one popup at most.
+pub type PopupNo = SurfaceNo;
+
 /// A popup that is asked for.
 #[derive(Clone, Copy, Debug, PartialEq, Eq)]
 pub struct NewPopup {
@@ -229,29 +232,29 @@ impl<A: Allocator> Shell<A> {
         popups::parent(self.get(surface)?)
     }
 
-    /// xdg_popup.grab: the popup of the surface has a grab, where that is allowed by the serial and the other clients, and its parent is a
-    /// toplevel or a popup with a grab. True where that is so, and where nothing is done, since the popup was dismissed or the surface has none;
-    /// false, and nothing changes, where the popup is to be dismissed.
+    /// xdg_popup.grab: the popup has a grab, where that is allowed by the serial and the other clients, and its parent is a toplevel or a popup
+    /// with a grab. True where that is so, and where nothing is done, since the popup was dismissed or there is none; false, and nothing changes,
+    /// where the popup is to be dismissed.
     ///
     /// # Errors
     ///
     /// `InvalidGrab` where the popup is mapped; nothing changes.
-    pub fn grab(&mut self, surface: SurfaceNo, is_allowed: bool) -> Result<bool, ShellError>
-        ensures answer { result ≡ grab_answer (parent_allows self.old (kept_of self.old surface) && is_allowed) (kept_of self.old surface) }
-        ensures ok { IfOk result (λ is_taken. kept_of self.new ≡ changing surface (kept_grabbing is_taken) (kept_of self.old)) }
+    pub fn grab(&mut self, popup: PopupNo, is_allowed: bool) -> Result<bool, ShellError>
+        ensures answer { result ≡ grab_answer (parent_allows self.old (kept_of self.old popup) && is_allowed) (kept_of self.old popup) }
+        ensures ok { IfOk result (λ is_taken. kept_of self.new ≡ changing popup (kept_grabbing is_taken) (kept_of self.old)) }
         ensures err { OnErr result (self.new ≡ self.old) }
     {
-        let is_allowed = self.may_grab(surface, is_allowed);
-        let Some(xdg_surface) = self.surfaces.get_mut(&surface) else {
+        let is_allowed = self.may_grab(popup, is_allowed);
+        let Some(xdg_surface) = self.surfaces.get_mut(&popup) else {
             return Ok(true);
         };
         xdg_surface.grab(is_allowed)
     }
 
-    /// xdg_popup.reposition: the popup of the surface has a copy of this positioner in place of the one before. Where it was configured before, and
+    /// xdg_popup.reposition: the popup has a copy of this positioner in place of the one before. Where it was configured before, and
     /// isn't dismissed, it is placed anew, within the bounds, given in pixels of the output, its parent's window geometry standing at `parent_at`: that
     /// place is answered, and is to be sent with a configure of this serial, which waits to be acknowledged; the popup stands where it stood. Elsewhere
-    /// nothing is to be sent, and no serial is drawn. Where the surface has no popup nothing changes. It takes no memory.
+    /// nothing is to be sent, and no serial is drawn. Where there is no such popup nothing changes. It takes no memory.
     ///
     /// # Errors
     ///
@@ -259,7 +262,7 @@ impl<A: Allocator> Shell<A> {
     /// positioner isn't complete.
     pub fn reposition(
         &mut self,
-        popup: SurfaceNo,
+        popup: PopupNo,
         positioner: &Positioner,
         bounds: Rect,
         parent_at: (i32, i32),
@@ -282,15 +285,15 @@ impl<A: Allocator> Shell<A> {
         popups::find_surface(&self.surfaces, id)
     }
 
-    /// The surface of the oldest popup, of those that are dismissed and of those that aren't; none where there is none.
-    pub fn first_popup(&self) -> Option<SurfaceNo>
+    /// The oldest popup, of those that are dismissed and of those that aren't; none where there is none.
+    pub fn first_popup(&self) -> Option<PopupNo>
         ensures { IsOldest (has_popup (λ popup. true)) (kept_of self.now) result }
     {
         popups::find_popup(&self.surfaces, Wanted::First)
     }
 
-    /// The surface of the oldest popup with a greater number, of those that aren't dismissed and of those that are; none where there is none.
-    pub fn popup_after(&self, number: u64) -> Option<SurfaceNo>
+    /// The oldest popup with a greater number in order of creation, of those that aren't dismissed and of those that are; none where there is none.
+    pub fn popup_after(&self, number: u64) -> Option<PopupNo>
         ensures { IsOldest (has_popup (λ popup. nat_lt number popup.number)) (kept_of self.now) result }
     {
         popups::find_popup(&self.surfaces, Wanted::After(number))
@@ -305,9 +308,9 @@ impl<A: Allocator> Shell<A> {
     }
 
     /// The popup of the xdg_surface of the surface is dismissed, if it has one, with those that descend from it, the newest first, one by each
-    /// call (xdg-shell.xml, xdg_popup.popup_done). Answers the surface of the one that was, and nothing, with nothing changed, where all are.
-    /// A dismissed popup has no grab.
-    pub fn dismiss(&mut self, surface: SurfaceNo) -> Option<SurfaceNo>
+    /// call (xdg-shell.xml, xdg_popup.popup_done). Answers the one that was, and nothing, with nothing changed, where all are. A dismissed popup
+    /// has no grab.
+    pub fn dismiss(&mut self, surface: SurfaceNo) -> Option<PopupNo>
         ensures newest { IsNewest (dismissible_under self.old (kept_of self.old surface)) (kept_of self.old) result }
         ensures some { IfSome result (λ gone. kept_of self.new ≡ changing gone (kept_changed dismiss) (kept_of self.old)) }
         ensures none { IfNone result (self.new ≡ self.old) }
@@ -325,9 +328,9 @@ impl<A: Allocator> Shell<A> {
     }
 
     /// The popups with a grab are dismissed, with those that descend from them, the newest first, one by each call (xdg-shell.xml,
-    /// xdg_popup.grab and xdg_popup.popup_done). Answers the surface of the one that was, and nothing, with nothing changed, where all are. A
-    /// dismissed popup has no grab.
-    pub fn dismiss_grabbing(&mut self) -> Option<SurfaceNo>
+    /// xdg_popup.grab and xdg_popup.popup_done). Answers the one that was, and nothing, with nothing changed, where all are. A dismissed popup has
+    /// no grab.
+    pub fn dismiss_grabbing(&mut self) -> Option<PopupNo>
         ensures newest { IsNewest (dismissible_grabbing self.old) (kept_of self.old) result }
         ensures some { IfSome result (λ gone. kept_of self.new ≡ changing gone (kept_changed dismiss) (kept_of self.old)) }
         ensures none { IfNone result (self.new ≡ self.old) }
@@ -369,15 +372,15 @@ impl<A: Allocator> Shell<A> {
     /// # Errors
     ///
     /// `NotTheTopmostPopup` where a living popup has it as its parent; nothing changes.
-    pub fn destroy_popup(&mut self, surface: SurfaceNo) -> Result<(), ShellError>
-        ensures answer { result ≡ popup_destruction (has_child self.old (kept_of self.old surface)) }
-        ensures ok { OnOk result (kept_of self.new ≡ changing surface kept_without_role (kept_of self.old)) }
+    pub fn destroy_popup(&mut self, popup: PopupNo) -> Result<(), ShellError>
+        ensures answer { result ≡ popup_destruction (has_child self.old (kept_of self.old popup)) }
+        ensures ok { OnOk result (kept_of self.new ≡ changing popup kept_without_role (kept_of self.old)) }
         ensures err { OnErr result (self.new ≡ self.old) }
     {
-        if self.has_child(surface) {
+        if self.has_child(popup) {
             return Err(ShellError::NotTheTopmostPopup);
         }
-        self.destroy_toplevel(surface);
+        self.destroy_toplevel(popup);
         Ok(())
     }
 

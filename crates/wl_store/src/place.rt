@@ -23,8 +23,10 @@ pub struct Layout {
 /// Why a buffer can't lie as it was asked for.
 #[derive(Clone, Copy, Debug, PartialEq, Eq, Error)]
 pub enum LayoutError {
+    /// wl_shm: invalid_stride.
     #[error("invalid stride")]
-    Stride,
+    Stride = 1,
+    /// wl_shm: invalid_format.
     #[error("invalid format")]
-    Format,
+    Format = 2,
 }

@@ -26,20 +26,27 @@ pub type StoreNo = u32;
 /// Why a store wasn't made or changed.
 #[derive(Clone, Copy, Debug, PartialEq, Eq, Error)]
 pub enum StoreError {
+    /// The size is below 1.
     #[error("a store's size is at least 1")]
-    BadSize,
+    BadSize = 1,
+    /// The size is below the present one.
     #[error("a store doesn't shrink")]
-    Shrinks,
+    Shrinks = 2,
+    /// No live store has the number.
     #[error("there is no such store")]
-    NoStore,
+    NoStore = 3,
+    /// The bytes would pass the end of the store.
     #[error("the bytes don't lie in the store")]
-    OutOfRange,
+    OutOfRange = 4,
+    /// 64 stores are live, or all numbers were used.
     #[error("too many stores")]
-    TooMany,
+    TooMany = 5,
+    /// The live stores would have more than 268,435,456 bytes together.
     #[error("the stores would be too large together")]
-    TooLarge,
+    TooLarge = 6,
+    /// There is no memory for it.
     #[error("out of memory")]
-    Memory,
+    Memory = 7,
 }
 
 impl From<AllocError> for StoreError {

@@ -116,6 +116,11 @@ pub given : {T : Type 0} (r : Result T SurfaceError) → (IsErr r → ⊥) → I
 given (Ok x) never = tt
 given (Err e) never = absurd (never refl)
 
+-- where memory alone is wanted, nothing is said of other refusals
+pub memory-leaves : {T : Type 0} (r : Result T SurfaceError) (P : Type 0) → IfErr r (λ e. e ≡ error.Memory) → IfErr r (λ e. e ≢ error.Memory → P)
+memory-leaves (Ok x) P h = tt
+memory-leaves (Err e) P h = λ other. absurd (other h)
+
 pub on-ok : {T P Q : Type 0} (r : Result T SurfaceError) → OnOk r P → (P → Q) → OnOk r Q
 on-ok (Ok x) p to = to p
 on-ok (Err e) p to = tt

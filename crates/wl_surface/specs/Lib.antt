@@ -12,6 +12,7 @@ pub mod State
 pub mod StateLaws
 pub mod Surface
 pub mod Surfaces
+pub mod Told
 pub mod Tree
 pub mod TreeLaws
 pub mod Trees

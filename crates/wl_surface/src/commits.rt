@@ -5,6 +5,7 @@ ghost use Rattle.wl_links.specs.Family.{HangTogether, links_in, parents_of, stac
 ghost use Rattle.wl_surface.specs.Linked.{IsLink, Stand, numbered};
 ghost use Rattle.wl_surface.specs.Room.{HasRoom};
 ghost use Rattle.wl_surface.specs.Tree.{AreAmong, AreOnce, AreShown, AreToldAfter, IsCommitTold, IsDesyncTold, IsEndTold, IsTold, applied_among, is_among, is_committed, is_released, numbers_of, shown_by, stacks_among};
+ghost use Rattle.wl_surface.specs.Told.{TellsNothing};
 ghost use Rattle.wl_surface.specs.Kept.{buffer_of};
 ghost use Rattle.wl_surface.specs.Request.{Commit};
 ghost use Rattle.wl_surface.specs.Surface.{asking};
@@ -123,7 +124,7 @@ impl<A: Allocator + Copy> Surfaces<A> {
     }
 
     /// wl_subsurface.set_desync: the child's commits are applied at once, unless a surface above it is synchronised. What was held is applied
-    /// where it behaved synchronised and doesn't any more. Nothing changes where it has no link, nor without memory.
+    /// where it behaved synchronised and doesn't any more. Nothing changes where it has no link, and nothing is told; nor does it without memory.
     pub fn set_desync(&mut self, child: SurfaceNo) -> Result<Told<A>, SurfaceError>
         ensures ok { OnOk result ((all : Asked) (number : ℕ) (link : Link) → IsLink all number child link → Stand self.old.states self.old.family all
             → Stand self.new.states self.new.family (desynchronised_in number all)) }
@@ -138,6 +139,7 @@ impl<A: Allocator + Copy> Surfaces<A> {
         ensures among { IfOk result (λ told. AreAmong told.applied.freed.items (map buffer_of told.shown.items)) }
         ensures callbacks { IfOk result (λ told. told.applied.callbacks.items ≡ []) }
         ensures none { links_in self.old.family child ≡ None → OnOk result (self.new ≡ self.old) }
+        ensures silent { links_in self.old.family child ≡ None → IfOk result TellsNothing }
         ensures err { OnErr result (self.new ≡ self.old) }
         ensures cause { IfErr result (λ e. e ≡ SurfaceError.Memory) }
     {
@@ -154,8 +156,8 @@ impl<A: Allocator + Copy> Surfaces<A> {
         Ok(self.nothing())
     }
 
-    /// wl_subsurface.destroy: the link of the child ends, which is applied with what descends from it. Nothing changes where it has no link,
-    /// nor without memory.
+    /// wl_subsurface.destroy: the link of the child ends, which is applied with what descends from it. Nothing changes where it has no link, and
+    /// nothing is told; nor does it without memory.
     pub fn remove_subsurface(&mut self, child: SurfaceNo) -> Result<Told<A>, SurfaceError>
         ensures ok { OnOk result ((all : Asked) (number : ℕ) (link : Link) → IsLink all number child link → Stand self.old.states self.old.family all
             → Stand self.new.states self.new.family (ended_in all link)) }
@@ -170,6 +172,7 @@ impl<A: Allocator + Copy> Surfaces<A> {
         ensures among { IfOk result (λ told. AreAmong told.applied.freed.items (map buffer_of told.shown.items)) }
         ensures callbacks { IfOk result (λ told. told.applied.callbacks.items ≡ []) }
         ensures none { links_in self.old.family child ≡ None → OnOk result (self.new ≡ self.old) }
+        ensures silent { links_in self.old.family child ≡ None → IfOk result TellsNothing }
         ensures err { OnErr result (self.new ≡ self.old) }
         ensures cause { IfErr result (λ e. e ≡ SurfaceError.Memory) }
     {

@@ -162,7 +162,7 @@ impl<A: Allocator + Copy> SurfaceStates<A> {
 
     /// The surface is applied: what is held of it counts, its frame requests among that, and what that changes is told. Nothing is told where
     /// there is none of this number.
-    pub fn apply(&mut self, surface: SurfaceNo) -> Option<Change<A>>
+    pub(crate) fn apply(&mut self, surface: SurfaceNo) -> Option<Change<A>>
         ensures stand { Changes self.old self.new surface applying }
         ensures frames { self.new.frames ≡ map (applied_by surface) self.old.frames }
         ensures waits { (all : Numbered) (cs : List Callback) → AreWaiting self.old.frames all cs
@@ -179,7 +179,7 @@ impl<A: Allocator + Copy> SurfaceStates<A> {
 
     /// wl_surface.destroy: the surface is gone, and its frame requests with it, whose callbacks are told. Nothing changes where there is none of
     /// this number, nor without memory.
-    pub fn destroy(&mut self, surface: SurfaceNo) -> Result<Vec<u32, A>, SurfaceError>
+    pub(crate) fn destroy(&mut self, surface: SurfaceNo) -> Result<Vec<u32, A>, SurfaceError>
         ensures ok { OnOk result ((all : Numbered) → StandForAll self.old all → StandForAll self.new (with_at surface None all)) }
         ensures count { OnOk result (count self.new + one_if_kept (kept_at self.old surface) ≡ count self.old) }
         ensures callbacks { IfOk result (λ callbacks. callbacks.items ≡ those_of surface self.old.frames) }
@@ -230,7 +230,7 @@ impl<A: Allocator> SurfaceStates<A> {
 
     /// wl_surface.commit: what is pending is held, the surface's frame requests with it, and counts once the surface is applied: at once, unless
     /// it behaves synchronised (wayland.xml, wl_subsurface). Without memory nothing changes.
-    pub fn hold(&mut self, surface: SurfaceNo) -> Result<(), SurfaceError>
+    pub(crate) fn hold(&mut self, surface: SurfaceNo) -> Result<(), SurfaceError>
         ensures ok { OnOk result (Changes self.old self.new surface (asking Commit)) }
         ensures frames { OnOk result (self.new.frames ≡ map (held_by surface) self.old.frames) }
         ensures waits { OnOk result ((all : Numbered) (cs : List Callback) → StandForAll self.old all → AreWaiting self.old.frames all cs

@@ -1,6 +1,6 @@
 //! The surfaces of a client with the links between them.
 
-ghost use Rattle.std.specs.Prelude.{ℕ, [], ◌≡◌, true, false, is_some, IfErr, OnErr, OnOk, Option, Some, None, Err};
+ghost use Rattle.std.specs.Prelude.{ℕ, [], ◌≡◌, ◌≢◌, true, false, is_some, IfErr, OnErr, OnOk, Option, Some, None, Err};
 ghost use Rattle.wl_links.specs.Family.{is_bad_sibling, links_in, member_of};
 ghost use Rattle.wl_surface.specs.Linked.{IsLink, IsRefused, Stand, is_other_role, is_taken, link_refusal, surface_error};
 ghost use Rattle.wl_surface.specs.Request.{Member, PlaceAbove, PlaceBelow, SetPosition};
@@ -73,6 +73,7 @@ impl<A: Allocator + Copy> Surfaces<A> {
         ensures refused { (all : Asked) → Stand self.old.states self.old.family all → IsRefused (link_refusal all child parent) result }
         ensures err { OnErr result ((all : Asked) → Stand self.old.states self.old.family all
             → is_some (surface_at child all) ≡ true → is_some (surface_at parent all) ≡ true → Stand self.new.states self.new.family all) }
+        ensures unchanged { (all : Asked) → Stand self.old.states self.old.family all → IfErr result (λ e. e ≢ SurfaceError.Memory → self.new ≡ self.old) }
         ensures frames { self.new.states.frames ≡ self.old.states.frames }
     {
         if self.family.is_too_deep(child, parent) {

@@ -1,4 +1,4 @@
--- What every client keeps by itself, all keep through each step that leaves the pointer alone, and through each message by itself, whatever is left out.
+-- What every client keeps by itself, all keep through each step that leaves the pointer alone, and through each message by itself.
 use Rattle.std.proofs.Common.{◌≡◌, ◌≢◌, ◌≤◌, ℕ, zero, suc, ◌+◌, ◌-◌, List, ◌++◌, length, Bool, true, false, Option, Some, None, drop, take, refl, ap, subst, sym, ◌∙◌, inl, inr, arith}
 use Rattle.std.proofs.lemmas.Option.{none-some, same_Some}
 use Rattle.std.specs.Prelude.{Result, Ok, Err, nat_le, if◌then◌else◌, not}
@@ -13,7 +13,7 @@ use Rattle.spec_desktop.specs.declared.refusals.ErrorCode.TheVariants.{InvalidMe
 use Rattle.spec_desktop.specs.declared.refusals.Refusal.{Refusal}
 use Rattle.spec_desktop.specs.Peer.{Errs, LacksMemory, Peer, Queues, counted, ended, sent_by, stored_at, stored_by, with_rest}
 use Rattle.spec_desktop.specs.Told.{Said, display_error}
-use Rattle.wl_shell.specs.Shell.{Effect, Stays, Unconfigured, Configures, Maps, Unmaps, xdg_of}
+use Rattle.wl_shell.specs.Shell.{Effect, Maps, Unmaps, xdg_of}
 use Rattle.wl_shell.specs.Popups.{is_toplevel}
 use Rattle.spec_desktop.specs.Pointer.{first_pointer}
 use Rattle.spec_desktop.specs.Stacking.{Standing, is_of}
@@ -26,7 +26,6 @@ use Rattle.spec_desktop.specs.Demanding.{effect_of_commit, judge_all}
 use Rattle.spec_desktop.specs.Desktop.{Desktop, Resident, arrival, become, client_at, client_in, toplevels_of, with_client}
 use Rattle.spec_desktop.specs.Framing.{FramesTold, FramesToldAt, FramesToldBy, done_due}
 use Rattle.spec_desktop.specs.Happens.{FeedsAt, Happens, IsFedAt, Reaches, Serves, StopsAt, done_for, frames_told, wants_memory}
-use Rattle.spec_desktop.specs.LeftOut.{LeftOut}
 use Rattle.spec_desktop.specs.Replies.{replies}
 use Rattle.spec_desktop.specs.Settling.{EndsAndSettles, becomes, unstruck}
 use Rattle.spec_desktop.specs.Stacked.{all_windows}
@@ -122,13 +121,11 @@ pub done-still : (c : ℕ) (demand : Demand) (r : Resident) (d : Desktop) → d.
 done-still c demand r d still = kept-still (stacked_for c demand r (all_windows d) d) (stacked-still c demand r (all_windows d) d still)
 
 by-others : (effect : Effect) (b : Bool) (c other id : ℕ) (d : Desktop) → c ≢ other → toplevels_of other (stacked_by effect b c id d) ≡ toplevels_of other d
-by-others Stays b c other id d differ = refl
-by-others Unconfigured b c other id d differ = refl
-by-others Configures b c other id d differ = refl
 by-others Maps true c other id d differ = on_top d.mappings c id other differ d.standing
 by-others Maps false c other id d differ = refl
 by-others Unmaps true c other id d differ = left_out (λ s. not (is_of c id s)) other (one_surface c other id differ) d.standing
 by-others Unmaps false c other id d differ = refl
+by-others effect b c other id d differ = refl
 
 -- the toplevels of the others stand as before
 pub stacked-others : (c other : ℕ) (demand : Demand) (r : Resident) (windows : List Window) (d : Desktop) → c ≢ other → toplevels_of other (stacked_for c demand r windows d) ≡ toplevels_of other d
@@ -159,9 +156,9 @@ abbrev pub counted_of : Resident → List ℕ → Resident
 counted_of r rest = with_peer (counted (with_rest rest r.peer)) r
 
 -- What a message demands leaves its client, which lives, what is said of it.
-abbrev pub DemandsKeep : LeftOut → (Option Cause → Resident → List Standing → Type 0) → Type 0
-DemandsKeep left By =
-    (c : ℕ) (r : Resident) (rest : List ℕ) (object opcode : ℕ) (body : List ℕ) (demand : Demand) (d : Desktop) → judge_all left r object opcode body ≡ Ok demand → d.pointer ≡ first_pointer
+abbrev pub DemandsKeep : (Option Cause → Resident → List Standing → Type 0) → Type 0
+DemandsKeep By =
+    (c : ℕ) (r : Resident) (rest : List ℕ) (object opcode : ℕ) (body : List ℕ) (demand : Demand) (d : Desktop) → judge_all r object opcode body ≡ Ok demand → d.pointer ≡ first_pointer
     → By None r (toplevels_of c d) → By None (changed_for c demand (counted_of r rest) d) (toplevels_of c (stacked_for c demand (counted_of r rest) (all_windows d) d))
 
 module _ (Absent : List Standing → Type 0) (By : Option Cause → Resident → List Standing → Type 0) (kept : IsKept Absent By) where
@@ -237,7 +234,7 @@ module _ (Absent : List Standing → Type 0) (By : Option Cause → Resident →
 
   -- ---- a message
 
-  module _ (left : LeftOut) (demands : DemandsKeep left By) where
+  module _ (demands : DemandsKeep By) where
     module _ (c : ℕ) (r : Resident) (d new : Desktop) (is : client_at c d ≡ Some r) (alive : r.peer.status ≡ None) (all : All d) where
       -- its client ends
       over : (Q : Peer → Type 0) → ((q : Peer) → Q q → q.status ≡ None → ⊥) → (s : Resident) → StepBecomes Q c s d new → All new
@@ -246,7 +243,7 @@ module _ (Absent : List Standing → Type 0) (By : Option Cause → Resident →
           subst All (sym k.2) (ends-all Absent By kept c s r k.0 d is all (never k.0 k.1))
 
       -- what is demanded is done
-      module _ (rest : List ℕ) (object opcode : ℕ) (body : List ℕ) (demand : Demand) (judged : judge_all left r object opcode body ≡ Ok demand) where
+      module _ (rest : List ℕ) (object opcode : ℕ) (body : List ℕ) (demand : Demand) (judged : judge_all r object opcode body ≡ Ok demand) where
         abbrev Now : Resident
         Now = counted_of r rest
 
@@ -257,7 +254,7 @@ module _ (Absent : List Standing → Type 0) (By : Option Cause → Resident →
         On = stacked_for c demand Now (all_windows d) d
 
         abbrev Events : List Said
-        Events = replies left c demand Now Made (all_windows d) d
+        Events = replies c demand Now Made (all_windows d) d
 
         clients : On.clients ≡ d.clients
         clients = ap (λ (e : Desktop). e.clients) (sym (done-still c demand Now d all.pointer)) ∙ done-clients_stay c demand Now d
@@ -280,41 +277,41 @@ module _ (Absent : List Standing → Type 0) (By : Option Cause → Resident →
             kept.keeps None Made q (toplevels_of c On) (same lived)
             (demands c r rest object opcode body demand d judged all.pointer (lives-there Absent By c r d all is alive)))
 
-        does : Does left c demand Now d new → All new
+        does : Does c demand Now d new → All new
         does h =
             let first : IsDone Events c Made On new = subst (λ (e : Desktop). IsDone Events c Made e new) (done-still c demand Now d all.pointer) h in
             let living : Made.peer.status ≡ None = (changed-steady c demand d Now).0 ∙ alive in
             let k = done-back Events c Made r On new found (stacked-still c demand Now (all_windows d) d all.pointer) living first in
             subst All (sym k.2) (made-keeps k.0 (told-is Events Made k.0 k.1))
 
-        wants : (b : Bool) → WantsOr b (Does left c demand Now d new) c Now d new → All new
+        wants : (b : Bool) → WantsOr b (Does c demand Now d new) c Now d new → All new
         wants false h = does h
         wants true (inl h) = over (LacksMemory Now.peer) (lacking Now.peer) Now h
         wants true (inr h) = does h
 
-      answers : (rest : List ℕ) (object opcode : ℕ) (body : List ℕ) (judged : Result Demand Refusal) → judge_all left r object opcode body ≡ judged
-          → Answers left judged c (with_peer (with_rest rest r.peer) r) d new → All new
+      answers : (rest : List ℕ) (object opcode : ℕ) (body : List ℕ) (judged : Result Demand Refusal) → judge_all r object opcode body ≡ judged
+          → Answers judged c (with_peer (with_rest rest r.peer) r) d new → All new
       answers rest object opcode body (Ok demand) e h = wants rest object opcode body demand e (wants_memory demand) h
       answers rest object opcode body (Err refusal) e h =
           over (Errs refusal (with_rest rest r.peer)) (erred refusal (with_rest rest r.peer)) (with_peer (with_rest rest r.peer) r) h
 
-      takes : (split : Split) → Takes left split c r d new → All new
+      takes : (split : Split) → Takes split c r d new → All new
       takes (Message object opcode size) h =
           let body = take (size - 8) (drop 8 r.peer.rest) in
-          answers (drop size r.peer.rest) object opcode body (judge_all left r object opcode body) refl h
+          answers (drop size r.peer.rest) object opcode body (judge_all r object opcode body) refl h
       takes Bad h = over (Errs (display_error InvalidMethod) r.peer) (erred (display_error InvalidMethod) r.peer) r h
       takes More h = absurd h
 
-    serves-at : (o : Option Resident) (c : ℕ) (d e : Desktop) → client_at c d ≡ o → All d → ServesAt left c o d e → All e
+    serves-at : (o : Option Resident) (c : ℕ) (d e : Desktop) → client_at c d ≡ o → All d → ServesAt c o d e → All e
     serves-at None c d e is all h = absurd h
     serves-at (Some r) c d e is all h = takes c r d e is h.0 all (split_of r.peer.rest) h.1
 
-    pub serves-keeps : (c : ℕ) (d e : Desktop) → All d → Serves left c d e → All e
+    pub serves-keeps : (c : ℕ) (d e : Desktop) → All d → Serves c d e → All e
     serves-keeps c d e all h = serves-at (client_at c d) c d e refl all h
 
     -- ---- a piece
 
-    pub reaches-keeps : (n c : ℕ) (d e : Desktop) → All d → Reaches left c n d e → All e
+    pub reaches-keeps : (n c : ℕ) (d e : Desktop) → All d → Reaches c n d e → All e
     reaches-keeps zero c d e all h = subst All (sym h) all
     reaches-keeps (suc n) c d e all h = serves-keeps c h.0 e (reaches-keeps n c d h.0 all h.1) h.2
 
@@ -323,20 +320,20 @@ module _ (Absent : List Standing → Type 0) (By : Option Cause → Resident →
     stops c (Some r) d e is all (inl h) = subst All (sym h.0) all
     stops c (Some r) d e is all (inr h) = settled-all Absent By kept c Memory r d e is all h.1
 
-    feeds : (s : Option Cause) (c : ℕ) (piece : List ℕ) (r : Resident) (d e : Desktop) → r.peer.status ≡ s → client_at c d ≡ Some r → All d → FeedsAt left c piece s r d e → All e
+    feeds : (s : Option Cause) (c : ℕ) (piece : List ℕ) (r : Resident) (d e : Desktop) → r.peer.status ≡ s → client_at c d ≡ Some r → All d → FeedsAt c piece s r d e → All e
     feeds (Some cause) c piece r d e status is all h = subst All (sym h) all
     feeds None c piece r d e status is all h =
         let come : Peer = with_rest (r.peer.rest ++ piece) r.peer in
         let start : All (with_client c (Some (with_peer come r)) d) = piece-keeps c r (r.peer.rest ++ piece) d all is in
         stops c (client_at c h.1) h.1 e refl (reaches-keeps h.0 c (with_client c (Some (with_peer come r)) d) h.1 start h.2) h.3
 
-    fed : (c : ℕ) (piece : List ℕ) (o : Option Resident) (d : Desktop) (done : Done) (e : Desktop) → client_at c d ≡ o → All d → IsFedAt left c piece o d done e → All e
+    fed : (c : ℕ) (piece : List ℕ) (o : Option Resident) (d : Desktop) (done : Done) (e : Desktop) → client_at c d ≡ o → All d → IsFedAt c piece o d done e → All e
     fed c piece None d done e is all h = subst All (sym h.1) all
     fed c piece (Some r) d done e is all h = feeds r.peer.status c piece r d e refl is all h.0
 
     -- ---- every step
 
-    pub happens-keeps : (act : Act) (done : Done) (d e : Desktop) → LeavesPointer act → All d → Happens left act done d e → All e
+    pub happens-keeps : (act : Act) (done : Done) (d e : Desktop) → LeavesPointer act → All d → Happens act done d e → All e
     happens-keeps Connect done d e alone all h = connects (lowest d.clients) d done e refl all h
     happens-keeps (Feed c piece) done d e alone all h = fed c piece (client_at c d) d done e refl all h
     happens-keeps (Store c store at bytes) done d e alone all h =

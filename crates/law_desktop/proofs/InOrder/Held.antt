@@ -7,8 +7,8 @@ use Rattle.std.proofs.lemmas.Bool.{eqb-true, false_from_ne_true, true≢false}
 use Rattle.wl_proto.specs.declared.interface.Interface.{Interface}
 use Rattle.wl_proto.specs.declared.interface.Interface.TheVariants.{WlBuffer, WlCallback, WlRegion, WlShmPool, WlSubsurface, WlSurface, XdgPositioner}
 use Rattle.spec_desktop.specs.declared.actions.Action.{Action}
-use Rattle.spec_desktop.specs.declared.actions.Action.TheVariants.{Sync, GetRegistry, Bind, CreateRegion, AddToRegion, SubtractFromRegion, DestroyRegion, CreatePool, CreateBuffer, ResizePool, DestroyPool}
-use Rattle.spec_desktop.specs.declared.actions.Action.TheVariants.{DestroyBuffer, CreatePositioner, SetPositioner, DestroyPositioner}
+use Rattle.spec_desktop.specs.declared.actions.Action.TheVariants.{GetRegistry, Bind, CreateRegion, DestroyRegion, CreatePool, CreateBuffer, DestroyPool}
+use Rattle.spec_desktop.specs.declared.actions.Action.TheVariants.{DestroyBuffer, CreatePositioner, DestroyPositioner}
 use Rattle.spec_desktop.specs.Judgement.{is_free}
 use Rattle.spec_desktop.specs.Objects.{Object, Objects, interface_number, is_of, with_id}
 use Rattle.spec_desktop.specs.Peer.{Peer, changed, object_at_version}
@@ -169,20 +169,16 @@ module _ (all : Surfaces) (subs : List Subsurface) (calls : List Callback) where
   stored-held false stores p held = held
 
   pub own-held : (used : ℕ → Bool) (action : Action) (r : Resident) → IsOwn r action → AreHeld all subs calls r.peer.objects → AreHeld all subs calls (changed_with used action r.peer).objects
-  own-held used (Sync callback) r ok held = held
   own-held used (GetRegistry id) r ok held = held-at all subs calls r.peer.objects held id _ (bare-new r.peer.objects id ok)
   own-held used (Bind id interface version) r ok held = held-at all subs calls r.peer.objects held id _ (bare-new r.peer.objects id ok.0)
   own-held used (CreateRegion id version) r ok held = held-at all subs calls r.peer.objects held id _ (bare-new r.peer.objects id ok)
-  own-held used (AddToRegion id rect) r ok held = held
-  own-held used (SubtractFromRegion id rect) r ok held = held
   own-held used (DestroyRegion id) r ok held = held-at all subs calls r.peer.objects held id None (bare-of WlRegion refl refl refl r.peer.objects id ok)
   own-held used (CreatePool id version size) r ok held = held-at all subs calls r.peer.objects held id _ (bare-new r.peer.objects id ok)
   own-held used (CreateBuffer id version laid) r ok held = held-at all subs calls r.peer.objects held id _ (bare-new r.peer.objects id ok)
-  own-held used (ResizePool store size) r ok held = held
   own-held used (DestroyPool id store) r ok held = held-at all subs calls r.peer.objects held id None (bare-of WlShmPool refl refl refl r.peer.objects id ok)
   own-held used (CreatePositioner id version) r ok held = held-at all subs calls r.peer.objects held id _ (bare-new r.peer.objects id ok)
-  own-held used (SetPositioner id setting) r ok held = held
   own-held used (DestroyPositioner id) r ok held = held-at all subs calls r.peer.objects held id None (bare-of XdgPositioner refl refl refl r.peer.objects id ok)
   own-held used (DestroyBuffer id store) r ok held =
       stored-held (has_used used (r.peer.buffers id)) r.peer.stores (changed (DestroyBuffer id store) r.peer)
       (held-at all subs calls r.peer.objects held id None (bare-of WlBuffer refl refl refl r.peer.objects id ok))
+  own-held used action r ok held = held

@@ -15,7 +15,6 @@ use Rattle.spec_desktop.specs.Demanding.{judge_all}
 use Rattle.spec_desktop.specs.Desktop.{Desktop, Resident, Subsurface, arrival, toplevels_of}
 use Rattle.spec_desktop.specs.Framing.{done_due}
 use Rattle.spec_desktop.specs.Happens.{callbacks_due, is_counting}
-use Rattle.spec_desktop.specs.LeftOut.{LeftOut}
 use Rattle.spec_desktop.specs.Stacked.{all_windows}
 use Rattle.spec_desktop.specs.Step.{with_peer}
 use Rattle.law_desktop.proofs.Soundness.Allowed.{allowed}
@@ -141,8 +140,8 @@ framed-lives r tops lives = (of-whole (done_due r) (framed-whole r (to-whole r l
 
 -- ---- a message is accepted
 
-module _ (left : LeftOut) (c : ℕ) (r : Resident) (rest : List ℕ) (object opcode : ℕ) (body : List ℕ) (demand : Demand) (d : Desktop)
-    (judged : judge_all left r object opcode body ≡ Ok demand) (owns : OwnsInOrder r) where
+module _ (c : ℕ) (r : Resident) (rest : List ℕ) (object opcode : ℕ) (body : List ℕ) (demand : Demand) (d : Desktop)
+    (judged : judge_all r object opcode body ≡ Ok demand) (owns : OwnsInOrder r) where
   abbrev Now : Resident
   Now = counted_of r rest
 
@@ -153,7 +152,7 @@ module _ (left : LeftOut) (c : ℕ) (r : Resident) (rest : List ℕ) (object opc
   w = to-whole r owns
 
   allows : IsAllowed Now demand
-  allows = allowed-counted r rest demand (allowed left r object opcode body demand judged)
+  allows = allowed-counted r rest demand (allowed r object opcode body demand judged)
 
   counts : Changed.peer.requests ≡ r.peer.requests + 1
   counts = (changed-steady c demand d Now).1
@@ -165,7 +164,7 @@ module _ (left : LeftOut) (c : ℕ) (r : Resident) (rest : List ℕ) (object opc
   hanging = roles-same r Now refl refl w.hanging
 
   own : AreOwn (r.peer.requests + 1 + 1) Changed.owned.surfaces Changed.subsurfaces
-  own = messages-hold AreOwn own-keeps left c r rest object opcode body demand [] d judged (bare-orderly r w) w.own
+  own = messages-hold AreOwn own-keeps c r rest object opcode body demand [] d judged (bare-orderly r w) w.own
 
   pub demand-owns : OwnsInOrder Changed
   demand-owns =
@@ -174,9 +173,9 @@ module _ (left : LeftOut) (c : ℕ) (r : Resident) (rest : List ℕ) (object opc
         objects = objects-kept c demand Now d allows objects;
         forest = subst (λ (n : ℕ). IsForest (n + 1) Changed.owned.surfaces) (sym counts) (forest-kept c demand Now d allows hanging w.forest);
         hanging = roles-kept c demand Now d allows objects w.forest hanging;
-        tied = messages-hold HangTogether tied-keeps left c r rest object opcode body demand [] d judged (bare-orderly r w) w.tied;
+        tied = messages-hold HangTogether tied-keeps c r rest object opcode body demand [] d judged (bare-orderly r w) w.tied;
         own = subst (λ (n : ℕ). AreOwn (n + 1) Changed.owned.surfaces Changed.subsurfaces) (sym counts) own;
-        buffers = changed-keeps r.peer.requests Now refl w.buffers c demand d (judged-from r left object opcode body demand judged);
+        buffers = changed-keeps r.peer.requests Now refl w.buffers c demand d (judged-from r object opcode body demand judged);
         known = demanded-known c demand Now d allows (peer-known r Now.peer refl w.known);
         subsurfaces = demanded-subsurfaces c demand Now d w.objects.surfaces allows (record { roles = w.subsurfaces.roles; bare = w.subsurfaces.bare });
         apart = demanded-numbers c demand Now d w.objects.shell.0 (none-numbered Now.peer.requests r.peer.requests r.owned.shell refl w.early) w.apart;

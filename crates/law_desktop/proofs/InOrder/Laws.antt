@@ -1,10 +1,9 @@
--- What each client owns is in order wherever nobody points: each step keeps it, whatever is left out.
+-- What each client owns is in order wherever nobody points: each step keeps it.
 use Rattle.std.proofs.Common.{◌≡◌, List, [], Option, Some, None, refl, ap, sym, subst}
 use Rattle.spec_desktop.specs.declared.cause.Cause.{Cause}
 use Rattle.spec_desktop.specs.Peer.{Peer}
 use Rattle.spec_desktop.specs.Stacking.{Standing}
 use Rattle.spec_desktop.specs.Desktop.{Desktop, Resident, arrival}
-use Rattle.spec_desktop.specs.LeftOut.{LeftOut}
 use Rattle.spec_desktop.specs.Step.{with_peer}
 use Rattle.law_desktop.specs.InOrder.{InOrder, InOrderBy}
 use Rattle.law_desktop.specs.InOrderLaws.{ClientsAreInOrder, DemandsKeepInOrder, EmptyIsInOrder, EndsKeepInOrder, FramesKeepInOrder, InOrderStays, MessagesKeepInOrder}
@@ -34,10 +33,10 @@ in-order-kept = record {
   framed = framed-lives;
 }
 
-pub demands-in-order : (left : LeftOut) → DemandsKeep left InOrderBy
-demands-in-order left c r rest object opcode body demand d judged still lives = (
-  demand-owns left c r rest object opcode body demand d judged lives.0,
-  demand-stands left c r rest object opcode body demand d judged lives.0 lives.1,
+pub demands-in-order : DemandsKeep InOrderBy
+demands-in-order c r rest object opcode body demand d judged still lives = (
+  demand-owns c r rest object opcode body demand d judged lives.0,
+  demand-stands c r rest object opcode body demand d judged lives.0 lives.1,
 )
 
 of-all : (d : Desktop) → AllAre NoneStands InOrderBy d → InOrder d
@@ -58,10 +57,10 @@ pub empty_is_in_order : EmptyIsInOrder
 empty_is_in_order output = of-all _ (empty-all NoneStands InOrderBy in-order-kept output)
 
 pub in_order_stays : InOrderStays
-in_order_stays left act done d e leaves order h = of-all e (happens-keeps NoneStands InOrderBy in-order-kept left (demands-in-order left) act done d e leaves (to-all d order) h)
+in_order_stays act done d e leaves order h = of-all e (happens-keeps NoneStands InOrderBy in-order-kept demands-in-order act done d e leaves (to-all d order) h)
 
 pub messages_keep_in_order : MessagesKeepInOrder
-messages_keep_in_order left c d e order h = of-all e (serves-keeps NoneStands InOrderBy in-order-kept left (demands-in-order left) c d e (to-all d order) h)
+messages_keep_in_order c d e order h = of-all e (serves-keeps NoneStands InOrderBy in-order-kept demands-in-order c d e (to-all d order) h)
 
 pub pieces_keep_in_order : PiecesKeepInOrder
 pieces_keep_in_order c r bytes d order is = of-all _ (piece-keeps NoneStands InOrderBy in-order-kept c r bytes d (to-all d order) is)
@@ -76,4 +75,4 @@ pub peers_keep_in_order : PeersKeepInOrder
 peers_keep_in_order r p objects buffers requests owns = peer-owns r p (record { objects = objects; buffers = buffers; requests = requests }) owns
 
 pub demands_keep_in_order : DemandsKeepInOrder
-demands_keep_in_order left c r rest object opcode body demand d owns judged = demand-owns left c r rest object opcode body demand d judged owns
+demands_keep_in_order c r rest object opcode body demand d owns judged = demand-owns c r rest object opcode body demand d judged owns

@@ -11,7 +11,7 @@ use Rattle.wl_shell.specs.declared.stage.Stage.{Stage}
 use Rattle.wl_shell.specs.Shell.{Effect, Stays, Unconfigured, Configures, Maps, Unmaps, Fresh, Waiting, Mapped, Kind, Toplevel, IsPopup, Popup, RoleObject, Shell, XdgSurface as Xdg}
 use Rattle.wl_shell.specs.Shell.{acknowledging, at_stage, configuring, in_stage, new_toplevel, role_acknowledged, unmapping, with_change, without_role, xdg_at, xdg_of}
 use Rattle.wl_shell.specs.Shell.{Configure, awaiting, up_to}
-use Rattle.spec_desktop.specs.Ask.{Ask, Own, CreateSurface, AskSurface, EndObject, GetXdgSurface, DestroyXdgSurface, GetToplevel, Acknowledge, ConfigureAgain, Ignore}
+use Rattle.spec_desktop.specs.Ask.{Ask, GetXdgSurface, DestroyXdgSurface, GetToplevel, Acknowledge, ConfigureAgain}
 use Rattle.spec_desktop.specs.Changing.{Placing, changed_for, drawing, effect_placing, grab_allowed, grabbed, has_focus, in_rising_order, is_configure, mode_set, placement_now, popup_given_to, tree_committed}
 use Rattle.spec_desktop.specs.Changing.{popup_repositioned}
 use Rattle.spec_desktop.specs.Demand.{Demand, Asks, EndSurface, AskFrame, CommitTree, GetSubsurface, EndSubsurface, SetMode, GetPointer, MakeCursor, Reposition}
@@ -129,16 +129,12 @@ apart-toplevel id xdg None r apart = apart
 apart-toplevel id xdg (Some x) r apart = apart-changed xdg (new_toplevel id (asked_so_far x.surface r)) (none-toplevel id (asked_so_far x.surface r)) r.owned.shell apart
 
 apart-asked : (ask : Ask) (r : Resident) → AreNumbered r.owned.shell → AreNumbered (changed_by ask r).owned.shell
-apart-asked (Own action) r apart = apart
-apart-asked (CreateSurface id version) r apart = apart
-apart-asked (AskSurface id request) r apart = apart
-apart-asked (EndObject id) r apart = apart
 apart-asked (GetXdgSurface id version base surface) r apart = new-apart has_number r.owned.shell _ (λ key is. absurd (true≢false (sym is))) apart
 apart-asked (DestroyXdgSurface id) r apart = apart-left has_number (λ x. not (x.id == id)) r.owned.shell apart
 apart-asked (GetToplevel id version xdg) r apart = apart-toplevel id xdg (xdg_at xdg r.owned.shell) r apart
 apart-asked (Acknowledge xdg serial) r apart = apart-changed xdg (acknowledging serial) (λ key x is. sym (none-acknowledged (up_to serial x.configures) key x.role) ∙ is) r.owned.shell apart
 apart-asked (ConfigureAgain xdg) r apart = apart-changed xdg (configuring r.peer.serial) (λ key x is. is) r.owned.shell apart
-apart-asked Ignore r apart = apart
+apart-asked ask r apart = apart
 
 apart-mode : (link : ℕ) (b : Bool) (r : Resident) → AreNumbered r.owned.shell → AreNumbered (mode_set link b r).owned.shell
 apart-mode link true r apart = apart

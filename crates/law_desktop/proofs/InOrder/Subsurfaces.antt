@@ -15,7 +15,7 @@ use Rattle.wl_surface.specs.Surfaces.{Surfaces, surface_at, with_change, with_ne
 use Rattle.wl_surface.specs.Trees.{linked}
 use Rattle.wl_shell.specs.Popups.{dismissing, is_parent_of, new_popup, orphaning, popup_changed, with_effect, with_grab, Popped, copying, is_configured, popup_at, repositioning, waiting_in}
 use Rattle.wl_shell.specs.Positioner.{Placed, Positioner}
-use Rattle.wl_shell.specs.Shell.{Configures, Effect, Maps, Stays, Unconfigured, Unmaps, Popup, Shell, XdgSurface as Xdg, acknowledging, configuring, new_toplevel}
+use Rattle.wl_shell.specs.Shell.{Effect, Maps, Stays, Popup, Shell, XdgSurface as Xdg, acknowledging, configuring, new_toplevel}
 use Rattle.wl_shell.specs.Shell.{with_change as with_xdg_change, without_role, xdg_at, xdg_of}
 use Rattle.spec_desktop.specs.Ask.{Ask, Own, CreateSurface, AskSurface, EndObject, GetXdgSurface, DestroyXdgSurface, GetToplevel, Acknowledge, ConfigureAgain, Ignore}
 use Rattle.spec_desktop.specs.Changing.{Placing, changed_for, drawing, effect_placing, frame_asked, grab_allowed, grabbed, has_focus, in_rising_order, is_configure, link_with_id, mode_set}
@@ -192,10 +192,8 @@ joined id version child parent r there none are =
 
 effect-surface : (serial since : ℕ) (where_to : Popup → Option Placed) (effect : Effect) (x : Xdg) → (with_effect serial since where_to effect x).surface ≡ x.surface
 effect-surface serial since where_to Stays x = arriving-surface (waiting_in x.role) x
-effect-surface serial since where_to Unconfigured x = refl
-effect-surface serial since where_to Configures x = refl
 effect-surface serial since where_to Maps x = arriving-surface (waiting_in x.role) x
-effect-surface serial since where_to Unmaps x = refl
+effect-surface serial since where_to effect x = refl
 
 effect-kept : (where_to : Placing) (id : ℕ) (effect : Effect) (o : Option Xdg) (r : Resident) → AreSubsurfaces r → AreSubsurfaces (effect_placing where_to id effect o r)
 effect-kept where_to id effect None r are = are

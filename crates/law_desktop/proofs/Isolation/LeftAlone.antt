@@ -6,7 +6,7 @@ use Rattle.spec_desktop.specs.Peer.{ended}
 use Rattle.spec_desktop.specs.Stacking.{Standing}
 use Rattle.spec_desktop.specs.declared.answers.Done.{Done}
 use Rattle.spec_desktop.specs.Desktop.{Desktop, Resident, arrival, client_at, resident_of, with_client, toplevels_of}
-use Rattle.spec_desktop.specs.Act.{Connect, Feed, Store, Leave, Tick, Send, Close, Motion, Button, lowest}
+use Rattle.spec_desktop.specs.Act.{Connect, Feed, Store, Leave, Send, Close, lowest}
 use Rattle.law_desktop.proofs.Runs.Forms.{ConnectsAt}
 use Rattle.law_desktop.specs.Others.{HasEndedUntold, IsLeftAlone, IsLeftBy, IsLeftLiving, IsLeftSo, IsNotQueued, IsToldOfFocus, OthersAreLeftAlone, client_of}
 use Rattle.law_desktop.proofs.Isolation.Others.{IsLeft, left-then, same-left}
@@ -112,18 +112,16 @@ else-than : (a c other : ℕ) → Some a ≡ Some c → c ≢ other → a ≢ ot
 else-than a c other same differ e = differ (sym (same_Some a c same) ∙ e)
 
 pub others_are_left_alone : OthersAreLeftAlone
-others_are_left_alone out Connect done c other old new of h differ =
+others_are_left_alone Connect done c other old new of h differ =
     left_alone other old new (carried other old new (connects c other (lowest old.clients) old done new of h differ))
-others_are_left_alone out (Feed a piece) done c other old new of h differ =
-    left_alone other old new (λ A P stays known. fed-in out a other (else-than a c other of differ) A P stays piece (client_at a old) old done new known h)
-others_are_left_alone out (Store a store at bytes) done c other old new of h differ =
-    left_alone other old new (λ A P stays known. changes-in out a other (else-than a c other of differ) A P stays _ _ (client_at a old) old done new known h)
-others_are_left_alone out (Leave a) done c other old new of h differ =
-    left_alone other old new (λ A P stays known. leaves-in out a other (else-than a c other of differ) A P stays (client_at a old) old done new known h)
-others_are_left_alone out (Tick time) done c other old new of h differ = absurd (cc)
-others_are_left_alone out (Send a n) done c other old new of h differ =
-    left_alone other old new (λ A P stays known. changes-in out a other (else-than a c other of differ) A P stays _ _ (client_at a old) old done new known h)
-others_are_left_alone out (Close a) done c other old new of h differ =
-    left_alone other old new (λ A P stays known. changes-in out a other (else-than a c other of differ) A P stays _ _ (client_at a old) old done new known h)
-others_are_left_alone out (Motion time x y) done c other old new of h differ = absurd (cc)
-others_are_left_alone out (Button time button pressed) done c other old new of h differ = absurd (cc)
+others_are_left_alone (Feed a piece) done c other old new of h differ =
+    left_alone other old new (λ A P stays known. fed-in a other (else-than a c other of differ) A P stays piece (client_at a old) old done new known h)
+others_are_left_alone (Store a store at bytes) done c other old new of h differ =
+    left_alone other old new (λ A P stays known. changes-in a other (else-than a c other of differ) A P stays _ _ (client_at a old) old done new known h)
+others_are_left_alone (Leave a) done c other old new of h differ =
+    left_alone other old new (λ A P stays known. leaves-in a other (else-than a c other of differ) A P stays (client_at a old) old done new known h)
+others_are_left_alone (Send a n) done c other old new of h differ =
+    left_alone other old new (λ A P stays known. changes-in a other (else-than a c other of differ) A P stays _ _ (client_at a old) old done new known h)
+others_are_left_alone (Close a) done c other old new of h differ =
+    left_alone other old new (λ A P stays known. changes-in a other (else-than a c other of differ) A P stays _ _ (client_at a old) old done new known h)
+others_are_left_alone act done c other old new of h differ = absurd (cc)

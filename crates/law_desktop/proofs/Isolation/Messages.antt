@@ -9,16 +9,15 @@ use Rattle.spec_desktop.specs.declared.cause.Cause.TheVariants.{Gone, Memory}
 use Rattle.spec_desktop.specs.declared.refusals.Refusal.{Refusal}
 use Rattle.spec_desktop.specs.Peer.{Peer, LacksMemory, counted, ended, with_rest}
 use Rattle.wl_shell.specs.Popups.{is_toplevel}
-use Rattle.wl_shell.specs.Shell.{Effect, Stays, Unconfigured, Configures, Maps, Unmaps, xdg_of}
+use Rattle.wl_shell.specs.Shell.{Effect, Maps, Unmaps, xdg_of}
 use Rattle.spec_desktop.specs.Stacking.{Standing, is_of}
 use Rattle.spec_desktop.specs.Windows.{Window}
 use Rattle.spec_desktop.specs.declared.answers.Done.{Done}
 use Rattle.spec_desktop.specs.Changing.{changed_for, stacked_by, stacked_for}
-use Rattle.spec_desktop.specs.Demand.{Demand, Asks, EndSurface, AskFrame, CommitTree, GetSubsurface, EndSubsurface, SetMode, GetPointer, MakeCursor}
-use Rattle.spec_desktop.specs.Demand.{GetPopup, Grab, EndPopup, EndToplevel, Move}
+use Rattle.spec_desktop.specs.Demand.{Demand, CommitTree}
+use Rattle.spec_desktop.specs.Demand.{EndToplevel}
 use Rattle.spec_desktop.specs.Demanding.{effect_of_commit}
 use Rattle.spec_desktop.specs.Desktop.{Desktop, Resident, become, client_at, with_client}
-use Rattle.spec_desktop.specs.LeftOut.{LeftOut}
 use Rattle.spec_desktop.specs.Settling.{Midstep, after_status, becomes, unstruck}
 use Rattle.spec_desktop.specs.Stacked.{all_windows}
 use Rattle.spec_desktop.specs.Step.{with_peer}
@@ -28,7 +27,6 @@ use Rattle.law_desktop.proofs.Isolation.Others.{IsLeft, become-left, left_out, o
 use Rattle.law_desktop.proofs.Runs.Places.{number-other}
 use Rattle.law_desktop.proofs.Isolation.Settling.{IsIn, IsWithin, Stays as Keeps, settling-in, struck-so}
 use Rattle.law_desktop.proofs.Isolation.Told.{ToldSo, told-focus}
-use Rattle.spec_desktop.specs.Demand.{Reposition}
 
 -- ---- the changes of a desktop
 
@@ -48,33 +46,19 @@ commit-left Maps true c other surface d differ = (refl, on_top d.mappings c surf
 commit-left Unmaps true c other surface d differ = (refl, left_out (λ s. not (is_of c surface s)) other (one_surface c other surface differ) d.standing)
 commit-left Maps false c other surface d differ = (refl, refl)
 commit-left Unmaps false c other surface d differ = (refl, refl)
-commit-left Stays toplevel c other surface d differ = (refl, refl)
-commit-left Unconfigured toplevel c other surface d differ = (refl, refl)
-commit-left Configures toplevel c other surface d differ = (refl, refl)
+commit-left effect toplevel c other surface d differ = (refl, refl)
 
 stacked_for-left : (c other : ℕ) (demand : Demand) (r : Resident) (windows : List Window) (d : Desktop) → c ≢ other → IsLeft other d (stacked_for c demand r windows d)
-stacked_for-left c other (Asks ask) r windows d differ = (refl, refl)
 stacked_for-left c other (CommitTree surface) r windows d differ =
     commit-left (effect_of_commit r surface) (is_toplevel (xdg_of surface r.owned.shell)) c other surface d differ
 stacked_for-left c other (EndToplevel id xdg top) r windows d differ =
     (refl, left_out (λ s. not (is_of c _ s)) other (one_surface c other top differ) d.standing)
-stacked_for-left c other (EndSurface id) r windows d differ = (refl, refl)
-stacked_for-left c other (AskFrame id version surface) r windows d differ = (refl, refl)
-stacked_for-left c other (GetSubsurface id version child parent) r windows d differ = (refl, refl)
-stacked_for-left c other (EndSubsurface id) r windows d differ = (refl, refl)
-stacked_for-left c other (SetMode link synchronised) r windows d differ = (refl, refl)
-stacked_for-left c other (GetPointer id version) r windows d differ = (refl, refl)
-stacked_for-left c other (MakeCursor surface) r windows d differ = (refl, refl)
-stacked_for-left c other (GetPopup id version xdg parent p) r windows d differ = (refl, refl)
-stacked_for-left c other (Reposition xdg token p) r windows d differ = (refl, refl)
-stacked_for-left c other (Grab xdg serial) r windows d differ = (refl, refl)
-stacked_for-left c other (EndPopup id xdg) r windows d differ = (refl, refl)
-stacked_for-left c other (Move surface serial) r windows d differ = (refl, refl)
+stacked_for-left c other demand r windows d differ = (refl, refl)
 
 done-left : (c other : ℕ) (demand : Demand) (r : Resident) (d : Desktop) → c ≢ other → IsLeft other d (done_for c demand r d)
 done-left c other demand r d differ = stacked_for-left c other demand r (all_windows d) d differ
 
-module _ (out : LeftOut) (c other : ℕ) (differ : c ≢ other) (A : Option Resident → List Standing → Type 0) (P : Resident → Cause → Type 0) (keeps : Keeps ToldSo A P) where
+module _ (c other : ℕ) (differ : c ≢ other) (A : Option Resident → List Standing → Type 0) (P : Resident → Cause → Type 0) (keeps : Keeps ToldSo A P) where
   -- it is known of the other client
   abbrev Known : Desktop → Type 0
   Known d = IsIn other ToldSo told-focus A P keeps d
@@ -107,7 +91,7 @@ module _ (out : LeftOut) (c other : ℕ) (differ : c ≢ other) (A : Option Resi
     becomes-then : (Q : Peer → Type 0) (r : Resident) (d : Desktop) → Known d → BecomesThen Q c r d Next → X
     becomes-then Q r d known h = next (unstruck (becomes c r h.0 d)) (becomes-known r h.0 d known, tt) h.2
 
-    does-then : (demand : Demand) (r : Resident) (d : Desktop) → Known d → DoesThen out c demand r d Next → X
+    does-then : (demand : Demand) (r : Resident) (d : Desktop) → Known d → DoesThen c demand r d Next → X
     does-then demand r d known h =
         let told : Option Resident = Some (with_peer h.0 (changed_for c demand r d)) in
         let done : Desktop = done_for c demand r d in
@@ -116,30 +100,30 @@ module _ (out : LeftOut) (c other : ℕ) (differ : c ≢ other) (A : Option Resi
         let struck = struck-so other ToldSo told-focus A P keeps (client_at other now) c h.1 [] (λ cause why same. absurd (differ same)) tt in
         next (changed_so c demand r d h.0 h.1) (with-known told done first, struck) h.3
 
-    wants-then : (b : Bool) (demand : Demand) (r : Resident) (d : Desktop) → Known d → WantsOrThen b (DoesThen out c demand r d Next) c r d Next → X
+    wants-then : (b : Bool) (demand : Demand) (r : Resident) (d : Desktop) → Known d → WantsOrThen b (DoesThen c demand r d Next) c r d Next → X
     wants-then false demand r d known h = does-then demand r d known h
     wants-then true demand r d known (inl h) = becomes-then (LacksMemory r.peer) r d known h
     wants-then true demand r d known (inr h) = does-then demand r d known h
 
-    answers-then : (judged : Result Demand Refusal) (r : Resident) (d : Desktop) → Known d → AnswersThen out judged c r d Next → X
+    answers-then : (judged : Result Demand Refusal) (r : Resident) (d : Desktop) → Known d → AnswersThen judged c r d Next → X
     answers-then (Ok demand) r d known h = wants-then (wants_memory demand) demand (with_peer (counted r.peer) r) d known h
     answers-then (Err refusal) r d known h = becomes-then _ r d known h
 
-    takes-then : (s : Split) (r : Resident) (d : Desktop) → Known d → TakesThen out s c r d Next → X
+    takes-then : (s : Split) (r : Resident) (d : Desktop) → Known d → TakesThen s c r d Next → X
     takes-then (Message object opcode size) r d known h = answers-then _ _ d known h
     takes-then Bad r d known h = becomes-then _ r d known h
     takes-then More r d known h = absurd h
 
-    pub serves-then : (o : Option Resident) (d : Desktop) → Known d → ServesThen out c o d Next → X
+    pub serves-then : (o : Option Resident) (d : Desktop) → Known d → ServesThen c o d Next → X
     serves-then None d known h = absurd h
     serves-then (Some r) d known h = takes-then (split_of r.peer.rest) r d known h.1
 
-  pub serves-in : (o : Option Resident) (d new : Desktop) → Known d → ServesAt out c o d new → Known new
+  pub serves-in : (o : Option Resident) (d new : Desktop) → Known d → ServesAt c o d new → Known new
   serves-in o d new known h = serves-then (Known new) (settling new) (settling-known new) o d known h
 
   -- ---- a piece
 
-  reaches-in : (n : ℕ) (d new : Desktop) → Known d → Reaches out c n d new → Known new
+  reaches-in : (n : ℕ) (d new : Desktop) → Known d → Reaches c n d new → Known new
   reaches-in zero d new known h = same-in d new h known
   reaches-in (suc n) d new known h = serves-in (client_at c h.0) h.0 new (reaches-in n d h.0 known h.1) h.2
 
@@ -149,14 +133,14 @@ module _ (out : LeftOut) (c other : ℕ) (differ : c ≢ other) (A : Option Resi
   stops-in (Some r) mid new known (inr h) =
       settling-known new (unstruck (becomes c r (ended Memory r.peer) mid)) (becomes-known r (ended Memory r.peer) mid known, tt) h.1
 
-  feeds-in : (piece : List ℕ) (s : Option Cause) (r : Resident) (d new : Desktop) → Known d → FeedsAt out c piece s r d new → Known new
+  feeds-in : (piece : List ℕ) (s : Option Cause) (r : Resident) (d new : Desktop) → Known d → FeedsAt c piece s r d new → Known new
   feeds-in piece (Some cause) r d new known h = same-in d new h known
   feeds-in piece None r d new known h =
       let come : Resident = with_peer (with_rest (r.peer.rest ++ piece) r.peer) r in
       let start : Desktop = with_client c (Some come) d in
       stops-in (client_at c h.1) h.1 new (reaches-in h.0 start h.1 (with-known (Some come) d known) h.2) h.3
 
-  pub fed-in : (piece : List ℕ) (o : Option Resident) (d : Desktop) (done : Done) (new : Desktop) → Known d → IsFedAt out c piece o d done new → Known new
+  pub fed-in : (piece : List ℕ) (o : Option Resident) (d : Desktop) (done : Done) (new : Desktop) → Known d → IsFedAt c piece o d done new → Known new
   fed-in piece None d done new known h = same-in d new h.1 known
   fed-in piece (Some r) d done new known h = feeds-in piece r.peer.status r d new known h.0
 

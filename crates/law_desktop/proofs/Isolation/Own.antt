@@ -15,7 +15,6 @@ use Rattle.spec_desktop.specs.Windows.{Place, Window}
 use Rattle.spec_desktop.specs.declared.answers.Done.{Done}
 use Rattle.spec_desktop.specs.Changing.{drawing, grab_holder, without_callbacks}
 use Rattle.spec_desktop.specs.Desktop.{Desktop, Resident, client_at, resident_of, toplevels_of}
-use Rattle.spec_desktop.specs.LeftOut.{LeftOut}
 use Rattle.spec_desktop.specs.Pointing.{button_told, has_pointers, motion_told, moved_standing}
 use Rattle.spec_desktop.specs.Replies.{focus_window, popups_done}
 use Rattle.spec_desktop.specs.Settling.{Applies, AppliesAll, Midstep, PointerActs, SettlesEnds, Settles, noted_if, number_of, unstruck, with_standing, without_grabs}
@@ -377,31 +376,31 @@ kept-alone c old new h = at (client_at c old) h
     at None h = h.0
     at (Some r) h = by r r.peer.status h
 
-connects : (out : LeftOut) (c : ℕ) (k : Option ℕ) (done : Done) (old new : Desktop) → lowest old.clients ≡ k → client_of Connect done ≢ Some c → ConnectsAt k old done new → KeepsItsOwn c old new
-connects out c None done old new is not_it h = kept-same c old new h.1
-connects out c (Some k) done old new is not_it (inl h) = kept-same c old new h.1
-connects out c (Some k) done old new is not_it (inr h) =
+connects : (c : ℕ) (k : Option ℕ) (done : Done) (old new : Desktop) → lowest old.clients ≡ k → client_of Connect done ≢ Some c → ConnectsAt k old done new → KeepsItsOwn c old new
+connects c None done old new is not_it h = kept-same c old new h.1
+connects c (Some k) done old new is not_it (inl h) = kept-same c old new h.1
+connects c (Some k) done old new is not_it (inr h) =
     let of : client_of Connect done ≡ Some (k + 1) = ap (λ (x : Done). client_of Connect x) h.0 in
     let all : ConnectsAt (lowest old.clients) old done new = rw is (inr h) in
-    kept-alone c old new (others_are_left_alone out Connect done (k + 1) c old new of all (λ e. not_it (of ∙ ap (λ (n : ℕ). Some n) e)))
+    kept-alone c old new (others_are_left_alone Connect done (k + 1) c old new of all (λ e. not_it (of ∙ ap (λ (n : ℕ). Some n) e)))
 
 -- a step of another's, whose number is known
-another : (out : LeftOut) (act : Act) (done : Done) (a c : ℕ) (old new : Desktop) → client_of act done ≡ Some a → client_of act done ≢ Some c → Happens out act done old new → KeepsItsOwn c old new
-another out act done a c old new of not_it h =
-    kept-alone c old new (others_are_left_alone out act done a c old new of h (λ e. not_it (of ∙ ap (λ (n : ℕ). Some n) e)))
+another : (act : Act) (done : Done) (a c : ℕ) (old new : Desktop) → client_of act done ≡ Some a → client_of act done ≢ Some c → Happens act done old new → KeepsItsOwn c old new
+another act done a c old new of not_it h =
+    kept-alone c old new (others_are_left_alone act done a c old new of h (λ e. not_it (of ∙ ap (λ (n : ℕ). Some n) e)))
 
 pub own_stays : OwnStays
-own_stays out Connect done c old new not_it h = connects out c (lowest old.clients) done old new refl not_it h
-own_stays out (Feed a piece) done c old new not_it h = another out (Feed a piece) done a c old new refl not_it h
-own_stays out (Store a store at bytes) done c old new not_it h = another out (Store a store at bytes) done a c old new refl not_it h
-own_stays out (Leave a) done c old new not_it h = another out (Leave a) done a c old new refl not_it h
-own_stays out (Tick time) done c old new not_it h =
+own_stays Connect done c old new not_it h = connects c (lowest old.clients) done old new refl not_it h
+own_stays (Feed a piece) done c old new not_it h = another (Feed a piece) done a c old new refl not_it h
+own_stays (Store a store at bytes) done c old new not_it h = another (Store a store at bytes) done a c old new refl not_it h
+own_stays (Leave a) done c old new not_it h = another (Leave a) done a c old new refl not_it h
+own_stays (Tick time) done c old new not_it h =
     kept c old new (λ A P stays shifting known. shown c StaysOwn own-all A P stays own-frames time old new known h.1)
-own_stays out (Send a n) done c old new not_it h = another out (Send a n) done a c old new refl not_it h
-own_stays out (Close a) done c old new not_it h = another out (Close a) done a c old new refl not_it h
-own_stays out (Motion time x y) done c old new not_it h =
+own_stays (Send a n) done c old new not_it h = another (Send a n) done a c old new refl not_it h
+own_stays (Close a) done c old new not_it h = another (Close a) done a c old new refl not_it h
+own_stays (Motion time x y) done c old new not_it h =
     let at : Place = point_in old.output x y in
     kept c old new
     (λ A P stays shifting known. moves c StaysOwn own-all A P stays time at old new (move-shifts c A shifting old.pointer.place at old.pointer.move) known h.1)
-own_stays out (Button time button true) done c old new not_it h = presses (is_press button old.pointer.buttons) time button c old new h.1
-own_stays out (Button time button false) done c old new not_it h = releases (is_down button old.pointer.buttons) time button c old new h.1
+own_stays (Button time button true) done c old new not_it h = presses (is_press button old.pointer.buttons) time button c old new h.1
+own_stays (Button time button false) done c old new not_it h = releases (is_down button old.pointer.buttons) time button c old new h.1

@@ -1,5 +1,5 @@
 -- Stores of buffers that are over: a request that leaves a surface its buffers lets none go.
-use Rattle.std.proofs.Common.{◌≡◌, ℕ, ◌≤◌, List, [], ◌++◌, Bool, true, false, Option, Some, cond, length, refl, ap, subst, sym, ◌∙◌}
+use Rattle.std.proofs.Common.{◌≡◌, ℕ, ◌≤◌, List, ◌++◌, Bool, true, false, Option, Some, cond, length, refl, ap, subst, sym, ◌∙◌}
 use Rattle.std.specs.Prelude.{◌==◌, ◌&&◌, ◌||◌, not, fold, map}
 use Rattle.spec_desktop.specs.Buffers.{Buffer as Made}
 use Rattle.spec_desktop.specs.Peer.{released}

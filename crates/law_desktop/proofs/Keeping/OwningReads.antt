@@ -9,7 +9,7 @@ use Rattle.spec_desktop.specs.declared.refusals.ErrorCode.TheVariants as error
 use Rattle.spec_desktop.specs.declared.refusals.Refusal.{Refusal}
 use Rattle.wl_surface.specs.declared.content.Attached.{Attached}
 use Rattle.wl_surface.specs.declared.role.Role.{Role}
-use Rattle.wl_surface.specs.declared.role.Role.TheVariants.{Toplevel as AsToplevel, Popup as AsPopup, Subsurface as AsSubsurface, Cursor as AsCursor}
+use Rattle.wl_surface.specs.declared.role.Role.TheVariants.{Toplevel as AsToplevel}
 use Rattle.wl_surface.specs.Kept.{buffer_of}
 use Rattle.wl_links.specs.Family.{Tied}
 use Rattle.wl_surface.specs.Slots.{Numbered, Slots, StandForAll, content_at, is_whole_at, pending_at, role_at}
@@ -24,7 +24,7 @@ use Rattle.wl_shell.specs.Kept.{Kept, acknowledgement_answer, commit_answer, con
 use Rattle.wl_shell.specs.Kept.{toplevel_answer}
 use Rattle.wl_shell.specs.Popups.{effect_in, kind_popup, popped_kind, popped_role, waiting_in}
 use Rattle.wl_shell.specs.Positioner.{Placed}
-use Rattle.wl_shell.specs.Shell.{Configure, Effect, Stays, Unconfigured, Configures, Maps, Unmaps, Kind, Toplevel, IsPopup, RoleObject, XdgSurface, answers_states, is_full, is_waiting, on_commit, stage_of, xdg_of}
+use Rattle.wl_shell.specs.Shell.{Configure, Effect, Stays, Configures, Kind, Toplevel, IsPopup, RoleObject, XdgSurface, answers_states, is_full, is_waiting, on_commit, stage_of, xdg_of}
 use Rattle.wl_shell.proofs.Shells.{shells_stand}
 use Rattle.spec_desktop.specs.Ask.{AskSurface, EndObject, GetXdgSurface, DestroyXdgSurface, GetToplevel, Acknowledge, ConfigureAgain, Ignore}
 use Rattle.spec_desktop.specs.Desktop.{Resident}
@@ -112,12 +112,9 @@ module _ (names : Names) (slots : Slots) (tied : Tied) (kept : ℕ → Option Ke
     where
       by-effect : (x : XdgSurface) (placed waiting : Option Placed) (effect : Effect) (full : Bool) → is_full x.configures ≡ full
           → committed_by (Some x) id effect ≡ asks_by (λ act. CommitTree id) (shell_refusal base x.id object) (effect_answer placed waiting effect x.configures)
-      by-effect x placed waiting Stays full e = refl
-      by-effect x placed waiting Unconfigured full e = refl
-      by-effect x placed waiting Maps full e = refl
-      by-effect x placed waiting Unmaps full e = refl
       by-effect x placed waiting Configures true e = rw e refl
       by-effect x placed waiting Configures false e = rw e refl
+      by-effect x placed waiting effect full e = refl
 
       at : (o : Option Kept) → kept number ≡ o
           → committed_by (xdg_of id r.owned.shell) id (effect_of_commit r id) ≡ asks_by (λ act. CommitTree id) (shell_refusal base (kept_id o) object) (commit_answer (will_show r id) bounds parent_at o)
@@ -264,6 +261,4 @@ free-made false false None e = (refl, refl, refl)
 pub role-fits : (role : Option Role) → is_no_toplevel role ≡ false → ((other : Role) × (role ≡ Some other) × (other ≢ AsToplevel)) → ⊥
 role-fits None fits other = none-some other.0 other.1
 role-fits (Some AsToplevel) fits other = other.2 (same_Some other.0 AsToplevel (sym other.1))
-role-fits (Some AsPopup) fits other = absurd (cc)
-role-fits (Some AsSubsurface) fits other = absurd (cc)
-role-fits (Some AsCursor) fits other = absurd (cc)
+role-fits role fits other = absurd (cc)

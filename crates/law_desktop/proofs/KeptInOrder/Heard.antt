@@ -6,8 +6,8 @@ use Rattle.std.specs.Option.{option_map_or}
 use Rattle.wl_wire.specs.Wire.{Field}
 use Rattle.wl_geom.specs.declared.rect.Rect.{Rect}
 use Rattle.wl_proto.specs.declared.interface.Interface.{Interface}
-use Rattle.wl_proto.specs.declared.interface.Interface.TheVariants.{WlDisplay, WlRegistry, WlCallback, WlCompositor, WlRegion, WlSurface, WlShm, WlShmPool, WlBuffer, WlSubcompositor, WlSubsurface}
-use Rattle.wl_proto.specs.declared.interface.Interface.TheVariants.{WlOutput, WlSeat, WlPointer, XdgWmBase, XdgPositioner, XdgSurface, XdgToplevel, XdgPopup}
+use Rattle.wl_proto.specs.declared.interface.Interface.TheVariants.{WlSurface}
+use Rattle.wl_proto.specs.declared.interface.Interface.TheVariants.{XdgWmBase, XdgSurface}
 use Rattle.wl_proto.specs.declared.wl_compositor.WlCompositorRequest.TheVariants as compositor
 use Rattle.wl_proto.specs.declared.wl_pointer.WlPointerRequest.TheVariants as pointer
 use Rattle.wl_proto.specs.declared.wl_seat.WlSeatRequest.TheVariants as seat
@@ -43,7 +43,6 @@ use Rattle.spec_desktop.specs.Demand.{GetPopup, Grab, EndPopup}
 use Rattle.spec_desktop.specs.Demanding.{base_demand, committed_by, demand_by, demand_of, demands, effect_of_commit, judge_all, moved_by_pointer, own_demand, surface_demand, toplevel_asked, if_whole}
 use Rattle.spec_desktop.specs.Demanding.{toplevel_destroyed, xdg_asked}
 use Rattle.spec_desktop.specs.Desktop.{Resident}
-use Rattle.spec_desktop.specs.LeftOut.{nothing_left_out}
 use Rattle.spec_desktop.specs.WlPointer.{cursor_set, is_no_cursor}
 use Rattle.spec_desktop.specs.WlSubsurface.{beside, demand_by_link, has_subsurface, is_no_subsurface, link_of_subsurface, placed_beside, subsurface_made}
 use Rattle.spec_desktop.specs.XdgPopup.{grab_of, is_no_popup, may_be_parent, popup_asked, popup_made, positioner_of, repositioned_by}
@@ -109,16 +108,11 @@ whole-fits r false object (Err refusal) fits = tt
 
 surface-fits : (r : Resident) (object version : ℕ) (request : WlSurfaceRequest) → Fits r (surface_demand r object version request)
 surface-fits r object version surface.Destroy = either r (is_some (xdg_of object r.owned.shell)) _ _ (λ there. tt) (λ none. tt)
-surface-fits r object version (surface.Frame callback) = tt
 surface-fits r object version surface.Commit =
     whole-fits r (will_be_whole r object) object _ (commit-fits r (xdg_of object r.owned.shell) object (effect_of_commit r object))
 surface-fits r object version (surface.SetBufferTransform transform) = ask-either r (int_le (pos 0) transform && int_le transform (pos 7)) _ _ (λ some. tt) (λ none. tt)
 surface-fits r object version (surface.SetBufferScale scale) = ask-either r (int_le (pos 1) scale) _ _ (λ some. tt) (λ none. tt)
-surface-fits r object version (surface.Attach buffer x y) = tt
-surface-fits r object version (surface.Damage x y width height) = tt
-surface-fits r object version (surface.DamageBuffer x y width height) = tt
-surface-fits r object version (surface.SetOpaqueRegion region) = tt
-surface-fits r object version (surface.SetInputRegion region) = tt
+surface-fits r object version request = tt
 
 -- ---- subsurfaces
 
@@ -245,37 +239,18 @@ interface-fits (ToPopup request) r object version names = popup-fits r object (x
 interface-fits request r object version names = own-demand-fits r object version request
 
 base-names : (r : Resident) (object opcode : ℕ) (fields : List Field) → IsHeardBy XdgWmBase r object opcode fields → NamesSurface r (base_request opcode fields)
-base-names r object zero fields heard = tt
-base-names r object (suc zero) fields heard = tt
 base-names r object (suc (suc zero)) fields heard = named-second r.peer.objects (Some XdgSurface) WlSurface [] _ fields heard.kinds heard.named
-base-names r object (suc (suc (suc zero))) fields heard = tt
 base-names r object (suc (suc (suc (suc opcode)))) fields heard = absurd heard.kinds
+base-names r object opcode fields heard = tt
 
 heard-names : (interface : Interface) (r : Resident) (object opcode : ℕ) (fields : List Field) → IsHeardBy interface r object opcode fields → Names r (request_in interface opcode fields)
 heard-names XdgWmBase r object opcode fields heard = base-names r object opcode fields heard
-heard-names WlCompositor r object opcode fields heard = tt
-heard-names WlSurface r object opcode fields heard = tt
-heard-names WlSubcompositor r object opcode fields heard = tt
-heard-names WlSubsurface r object opcode fields heard = tt
-heard-names WlSeat r object opcode fields heard = tt
-heard-names WlPointer r object opcode fields heard = tt
-heard-names XdgPositioner r object opcode fields heard = tt
-heard-names XdgSurface r object opcode fields heard = tt
-heard-names XdgToplevel r object opcode fields heard = tt
-heard-names XdgPopup r object opcode fields heard = tt
-heard-names WlDisplay r object opcode fields heard = tt
-heard-names WlRegistry r object opcode fields heard = tt
-heard-names WlCallback r object opcode fields heard = tt
-heard-names WlRegion r object opcode fields heard = tt
-heard-names WlShm r object opcode fields heard = tt
-heard-names WlShmPool r object opcode fields heard = tt
-heard-names WlBuffer r object opcode fields heard = tt
-heard-names WlOutput r object opcode fields heard = tt
+heard-names interface r object opcode fields heard = tt
 
 -- what is known of an accepted message
-pub fits : (r : Resident) (object opcode : ℕ) (body : List ℕ) (demand : Demand) → judge_all nothing_left_out r object opcode body ≡ Ok demand → IsFit r demand
+pub fits : (r : Resident) (object opcode : ℕ) (body : List ℕ) (demand : Demand) → judge_all r object opcode body ≡ Ok demand → IsFit r demand
 fits r object opcode body demand e =
-    let heard = judged-hears r.peer.objects r.peer.held object opcode (λ version m. demand_of nothing_left_out r object version m) body demand e in
+    let heard = judged-hears r.peer.objects r.peer.held object opcode (λ version m. demand_of r object version m) body demand e in
     let interface = heard.0.interface in
     let request = request_in interface opcode heard.1 in
     subst (λ (o : Result Demand Refusal). Fits r o) heard.3

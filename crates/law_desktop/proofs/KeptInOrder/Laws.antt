@@ -7,7 +7,6 @@ use Rattle.spec_desktop.specs.Told.{Output, Said}
 use Rattle.spec_desktop.specs.Stacking.{Standing}
 use Rattle.spec_desktop.specs.Desktop.{Desktop, Resident, arrival, client_at, toplevels_of, unpointed}
 use Rattle.spec_desktop.specs.Framing.{done_due}
-use Rattle.spec_desktop.specs.LeftOut.{nothing_left_out}
 use Rattle.spec_desktop.specs.Replies.{popups_done}
 use Rattle.spec_desktop.specs.Settling.{Midstep, TellsAt, TellsResident, TellsUnless, is_struck, without_grabs}
 use Rattle.spec_desktop.specs.Step.{with_peer}
@@ -89,10 +88,10 @@ order-kept = record {
   framed = framed-order;
 }
 
-demands-order : DemandsKeep nothing_left_out By
+demands-order : DemandsKeep By
 demands-order c r rest object opcode body demand d judged still lives =
     let made = demand-ordered c r rest object opcode body demand d lives.1 judged in
-    ((made.order, demand-stands nothing_left_out c r rest object opcode body demand d judged lives.0.0 lives.0.1), made)
+    ((made.order, demand-stands c r rest object opcode body demand d judged lives.0.0 lives.0.1), made)
 
 -- ---- as the definition says it
 
@@ -123,10 +122,10 @@ pub empty_is_ordered : EmptyIsOrdered
 empty_is_ordered output = of-all _ (empty-all NoneStands By order-kept output)
 
 pub ordered_stays : OrderedStays
-ordered_stays act done d e leaves ordered h = of-all e (happens-keeps NoneStands By order-kept nothing_left_out demands-order act done d e leaves (to-all d ordered) h)
+ordered_stays act done d e leaves ordered h = of-all e (happens-keeps NoneStands By order-kept demands-order act done d e leaves (to-all d ordered) h)
 
 pub messages_keep_ordered : MessagesKeepOrdered
-messages_keep_ordered c d e ordered h = of-all e (serves-keeps NoneStands By order-kept nothing_left_out demands-order c d e (to-all d ordered) h)
+messages_keep_ordered c d e ordered h = of-all e (serves-keeps NoneStands By order-kept demands-order c d e (to-all d ordered) h)
 
 pub pieces_keep_ordered : PiecesKeepOrdered
 pieces_keep_ordered c r bytes d ordered is = of-all _ (piece-keeps NoneStands By order-kept c r bytes d (to-all d ordered) is)

@@ -1,5 +1,5 @@
 -- The toplevels of a client that stand are mapped, each once, as one is raised or moved.
-use Rattle.std.proofs.Common.{◌≡◌, ℕ, ◌+◌, List, [], Option, Some, None, refl, sym, subst, ◌∙◌}
+use Rattle.std.proofs.Common.{◌≡◌, ℕ, ◌+◌, List, Option, Some, None, refl, sym, subst, ◌∙◌}
 use Rattle.spec_desktop.specs.declared.cause.Cause.{Cause}
 use Rattle.spec_desktop.specs.Stacking.{Standing, moved_to, raised}
 use Rattle.spec_desktop.specs.Windows.{Place}

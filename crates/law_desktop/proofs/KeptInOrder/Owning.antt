@@ -15,7 +15,6 @@ use Rattle.spec_desktop.specs.Changing.{changed_for}
 use Rattle.spec_desktop.specs.Demand.{Demand, Asks, EndPopup, EndSurface, GetPopup, Grab}
 use Rattle.spec_desktop.specs.Demanding.{judge_all}
 use Rattle.spec_desktop.specs.Desktop.{Desktop, Resident}
-use Rattle.spec_desktop.specs.LeftOut.{nothing_left_out}
 use Rattle.spec_desktop.specs.Step.{with_peer}
 use Rattle.law_desktop.specs.Apart.{AreApartBy}
 use Rattle.law_desktop.proofs.Lists.Keys.{gone, length-new}
@@ -152,7 +151,7 @@ meets r (Asks (GetXdgSurface id version base surface)) order fit = order.surface
 meets r demand order fit = tt
 
 pub demand-ordered : (c : ℕ) (r : Resident) (rest : List ℕ) (object opcode : ℕ) (body : List ℕ) (demand : Demand) (d : Desktop) → OwnsOrdered r
-    → judge_all nothing_left_out r object opcode body ≡ Ok demand → OwnsOrdered (changed_for c demand (counted_of r rest) d)
+    → judge_all r object opcode body ≡ Ok demand → OwnsOrdered (changed_for c demand (counted_of r rest) d)
 demand-ordered c r rest object opcode body demand d owns judged = record {
   order = order;
   younger = are-younger made order fine.elders;
@@ -170,10 +169,10 @@ demand-ordered c r rest object opcode body demand d owns judged = record {
     made = changed_for c demand now d
 
     order : OwnsInOrder made
-    order = demand-owns nothing_left_out c r rest object opcode body demand d judged owns.order
+    order = demand-owns c r rest object opcode body demand d judged owns.order
 
     ok : IsAllowed now demand
-    ok = allowed-counted r rest demand (allowed nothing_left_out r object opcode body demand judged)
+    ok = allowed-counted r rest demand (allowed r object opcode body demand judged)
 
     fit : IsFit now demand
     fit = fit-counted r rest demand (fits r object opcode body demand judged)

@@ -8,7 +8,7 @@ use Rattle.wl_shell.specs.Popups.{copying, is_configured, popup_at, repositionin
 use Rattle.wl_shell.specs.Positioner.{Positioner}
 use Rattle.wl_shell.specs.Shell.{Effect, Popup, Shell, XdgSurface as Xdg, acknowledging, configuring, new_toplevel, with_change, with_new, without_role, without_xdg, xdg_at, xdg_of}
 use Rattle.wl_shell.proofs.Reading.{any-popup}
-use Rattle.spec_desktop.specs.Ask.{Ask, Own, CreateSurface, AskSurface, EndObject, GetXdgSurface, DestroyXdgSurface, GetToplevel, Acknowledge, ConfigureAgain, Ignore}
+use Rattle.spec_desktop.specs.Ask.{Ask, GetXdgSurface, DestroyXdgSurface, GetToplevel, Acknowledge, ConfigureAgain}
 use Rattle.spec_desktop.specs.Changing.{Placing, changed_for, drawing, effect_placing, grab_allowed, grabbed, has_focus, in_rising_order, is_configure, mode_set, placement_now, popup_given_to, tree_committed}
 use Rattle.spec_desktop.specs.Changing.{popup_repositioned}
 use Rattle.spec_desktop.specs.Demand.{Demand, Asks, EndSurface, AskFrame, CommitTree, GetSubsurface, EndSubsurface, SetMode, GetPointer, MakeCursor, Reposition}
@@ -142,16 +142,12 @@ module _ (P : ℕ → Type 0) where
       (elders-toplevel id xdg since r.owned.shell (subst HasNoRole (sym e) bare) fine.elders) fine
 
   fine-asked : (ask : Ask) (r : Resident) → IsAsked r ask → MeetsAsk P ask → Fine r.owned.shell → Fine (changed_by ask r).owned.shell
-  fine-asked (Own action) r ok new fine = fine
-  fine-asked (CreateSurface id version) r ok new fine = fine
-  fine-asked (AskSurface id request) r ok new fine = fine
-  fine-asked (EndObject id) r ok new fine = fine
   fine-asked (GetXdgSurface id version base surface) r ok new fine = fine-new id base surface r.owned.shell new fine
   fine-asked (DestroyXdgSurface id) r ok new fine = fine-left id r.owned.shell ok.1 fine
   fine-asked (GetToplevel id version xdg) r ok new fine = fine-toplevel id xdg (xdg_at xdg r.owned.shell) r refl ok.1 fine
   fine-asked (Acknowledge xdg serial) r ok new fine = fine-change xdg (acknowledging serial) (acknowledged-gentle serial) r.owned.shell fine
   fine-asked (ConfigureAgain xdg) r ok new fine = fine-change xdg (configuring r.peer.serial) (configured-gentle r.peer.serial) r.owned.shell fine
-  fine-asked Ignore r ok new fine = fine
+  fine-asked ask r ok new fine = fine
 
   fine-mode : (link : ℕ) (b : Bool) (r : Resident) → Fine r.owned.shell → Fine (mode_set link b r).owned.shell
   fine-mode link true r fine = fine

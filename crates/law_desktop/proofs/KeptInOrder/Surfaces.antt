@@ -8,11 +8,11 @@ use Rattle.wl_surface.specs.Trees.{destroyed_in}
 use Rattle.wl_shell.specs.Positioner.{Positioner}
 use Rattle.wl_shell.specs.Shell.{Effect, XdgSurface as Xdg, xdg_at, xdg_of}
 use Rattle.wl_shell.specs.Popups.{Popped, is_configured, popup_at}
-use Rattle.spec_desktop.specs.Ask.{Ask, Own, CreateSurface, AskSurface, EndObject, GetXdgSurface, DestroyXdgSurface, GetToplevel, Acknowledge, ConfigureAgain, Ignore}
+use Rattle.spec_desktop.specs.Ask.{Ask, CreateSurface, AskSurface, GetToplevel}
 use Rattle.spec_desktop.specs.Changing.{Placing, changed_for, drawing, effect_placing, grab_allowed, grabbed, has_focus, in_rising_order, is_configure, link_with_id, mode_set, placement_now}
 use Rattle.spec_desktop.specs.Changing.{popup_given_to, tree_committed, popup_repositioned}
 use Rattle.spec_desktop.specs.Demand.{Demand, Asks, EndSurface, AskFrame, CommitTree, GetSubsurface, EndSubsurface, SetMode, GetPointer, MakeCursor, Reposition}
-use Rattle.spec_desktop.specs.Demand.{GetPopup, Grab, EndPopup, EndToplevel, Move}
+use Rattle.spec_desktop.specs.Demand.{GetPopup, Grab}
 use Rattle.spec_desktop.specs.Demanding.{effect_of_commit}
 use Rattle.spec_desktop.specs.Desktop.{Desktop, Resident}
 use Rattle.spec_desktop.specs.Step.{changed_by, toplevel_given}
@@ -58,16 +58,10 @@ mode-there link true r = λ key. refl
 mode-there link false r = there-desynchronised link r.owned.surfaces
 
 asked-there : (ask : Ask) (r : Resident) → AskThere ask r.owned.surfaces (changed_by ask r).owned.surfaces
-asked-there (Own action) r = λ key. refl
 asked-there (CreateSurface id version) r = refl
 asked-there (AskSurface id request) r = there-changed id (asking request) r.owned.surfaces (λ s. refl)
-asked-there (EndObject id) r = λ key. refl
-asked-there (GetXdgSurface id version base surface) r = λ key. refl
-asked-there (DestroyXdgSurface id) r = λ key. refl
 asked-there (GetToplevel id version xdg) r = toplevel-there id xdg (xdg_at xdg r.owned.shell) r
-asked-there (Acknowledge xdg serial) r = λ key. refl
-asked-there (ConfigureAgain xdg) r = λ key. refl
-asked-there Ignore r = λ key. refl
+asked-there ask r = λ key. refl
 
 pub demand-there : (c : ℕ) (demand : Demand) (r : Resident) (d : Desktop) → DemandThere demand r.owned.surfaces (changed_for c demand r d).owned.surfaces
 demand-there c (Asks ask) r d = asked-there ask r
@@ -85,6 +79,4 @@ demand-there c (MakeCursor surface) r d = there-changed surface (with_role AsCur
 demand-there c (GetPopup id version xdg parent p) r d = popup-there id xdg parent p (xdg_at xdg r.owned.shell) r
 demand-there c (Reposition xdg token p) r d = reposition-there (placement_now c r d) p (popup_at xdg r.owned.shell) r
 demand-there c (Grab xdg serial) r d = grabbed-there (grab_allowed c xdg serial r d) xdg r
-demand-there c (EndPopup id xdg) r d = λ key. refl
-demand-there c (EndToplevel id xdg top) r d = λ key. refl
-demand-there c (Move surface serial) r d = λ key. refl
+demand-there c demand r d = λ key. refl

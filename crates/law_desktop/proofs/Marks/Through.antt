@@ -10,7 +10,6 @@ use Rattle.wl_surface.specs.Surfaces.{history_in}
 use Rattle.spec_desktop.specs.Desktop.{Desktop, Resident, client_at, owned_in}
 use Rattle.spec_desktop.specs.Happenings.{Happening, Leads, Message, Receive, ReceivesAt, Single, Starve, StarvesAt}
 use Rattle.law_desktop.specs.Happenings.{MarkedThrough}
-use Rattle.spec_desktop.specs.LeftOut.{LeftOut}
 use Rattle.spec_desktop.specs.Marks.{AreDistinct, at_least}
 use Rattle.spec_desktop.specs.Moments.{applied_between, history_of, is_applied_by, marks_at_least_of, marks_at_least_through}
 use Rattle.spec_desktop.specs.Settling.{Midstep, becomes, unstruck}
@@ -28,33 +27,33 @@ use Rattle.law_desktop.proofs.Lists.Each.{each-map}
 -- ---- the desktops of a happening
 
 -- a happening's own change leads to one desktop, and ends and settlings on from there
-leads-follow : (left : LeftOut) (h : Happening) (d : Desktop) (path : List Desktop) (new : Desktop) → Leads left h d path new → Follow path new
-leads-follow left (Receive c piece) d path new h = at (client_at c d) h
+leads-follow : (h : Happening) (d : Desktop) (path : List Desktop) (new : Desktop) → Leads h d path new → Follow path new
+leads-follow (Receive c piece) d path new h = at (client_at c d) h
   where
     at : (o : Option Resident) → ReceivesAt c piece o d path new → Follow path new
     at None h = absurd h
     at (Some r) h = (new, [], h.2, refl)
-leads-follow left (Message c) d path new h =
+leads-follow (Message c) d path new h =
     (served (settling_through path new) (settling_through path new) (λ (p : Follow path new). λ (mid : Midstep). Unit {0}) (λ (p : Follow path new). λ (mid : Midstep). Unit {0})
-    (λ mid k. (settling-follows path new mid k, tt)) (λ mid k. (settling-follows path new mid k, tt)) left c (client_at c d) d h).0
-leads-follow left (Starve c) d path new h = at (client_at c d) h
+    (λ mid k. (settling-follows path new mid k, tt)) (λ mid k. (settling-follows path new mid k, tt)) c (client_at c d) d h).0
+leads-follow (Starve c) d path new h = at (client_at c d) h
   where
     at : (o : Option Resident) → StarvesAt c o d path new → Follow path new
     at None h = absurd h
     at (Some r) h = settling-follows path new (unstruck (becomes c r (ended Memory r.peer) d)) h.1
-leads-follow left (Single act done) d path new h =
+leads-follow (Single act done) d path new h =
     (happened (settling_through path new) (ending_through path new) (λ (p : Follow path new). λ (mid : Midstep). Unit {0}) (λ (p : Follow path new). λ (mid : Midstep). Unit {0})
-    (λ mid k. (settling-follows path new mid k, tt)) (λ mid k. (ending-follows path new mid k, tt)) left act done d h).0
+    (λ mid k. (settling-follows path new mid k, tt)) (λ mid k. (ending-follows path new mid k, tt)) act done d h).0
 
-pub leads-output : (left : LeftOut) (h : Happening) (d : Desktop) (path : List Desktop) (new : Desktop) → Leads left h d path new → new.output ≡ d.output
-leads-output left (Receive c piece) d path new h = at (client_at c d) h
+pub leads-output : (h : Happening) (d : Desktop) (path : List Desktop) (new : Desktop) → Leads h d path new → new.output ≡ d.output
+leads-output (Receive c piece) d path new h = at (client_at c d) h
   where
     at : (o : Option Resident) → ReceivesAt c piece o d path new → new.output ≡ d.output
     at None h = absurd h
     at (Some r) h = ap (λ (x : Desktop). x.output) h.1
-leads-output left (Message c) d path new h = serves-same left c (client_at c d) d new ((messages_lead_through left c d new).0 path h)
-leads-output left (Starve c) d path new h = stops-same left c (client_at c d) d new (stops c (client_at c d) d path new h)
-leads-output left (Single act done) d path new h = happens-output left act done d new ((happens_leads_through left act done d new).0 path h)
+leads-output (Message c) d path new h = serves-same c (client_at c d) d new ((messages_lead_through c d new).0 path h)
+leads-output (Starve c) d path new h = stops-same c (client_at c d) d new (stops c (client_at c d) d path new h)
+leads-output (Single act done) d path new h = happens-output act done d new ((happens_leads_through act done d new).0 path h)
 
 along-output : (d : Desktop) (es : List Desktop) (new : Desktop) → Along d es new → new.output ≡ d.output
 along-output d [] new h = ap (λ (x : Desktop). x.output) h
@@ -94,8 +93,8 @@ unmarked-along d m (p ∷ ps) new x y apart sized h before rest =
     (or-right (marks_at_least_of all_windows m p x y) _ rest)
 
 pub marked_through : MarkedThrough
-marked_through left h d path new x y apart leads unmarked =
-    let f : Follow path new = leads-follow left h d path new leads in
+marked_through h d path new x y apart leads unmarked =
+    let f : Follow path new = leads-follow h d path new leads in
     let all : marks_at_least_through all_windows d (f.0 ∷ f.1) x y ≡ false = subst (λ (p : List Desktop). marks_at_least_through all_windows d p x y ≡ false) f.2 unmarked in
-    let sized : f.0.output ≡ d.output = sym (along-output f.0 f.1 new f.3) ∙ leads-output left h d path new leads in
+    let sized : f.0.output ≡ d.output = sym (along-output f.0 f.1 new f.3) ∙ leads-output h d path new leads in
     unmarked-along d f.0 f.1 new x y apart sized f.3 (or-left (marks_at_least_of all_windows d f.0 x y) _ all) (or-right (marks_at_least_of all_windows d f.0 x y) _ all)

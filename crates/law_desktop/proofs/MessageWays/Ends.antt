@@ -13,7 +13,7 @@ use Rattle.spec_desktop.specs.declared.refusals.Refusal.{Refusal}
 use Rattle.spec_desktop.specs.Peer.{Errs, LacksMemory, Peer, Queues, counted, ended, with_rest}
 use Rattle.spec_desktop.specs.Told.{Said, display_error}
 use Rattle.wl_shell.specs.Popups.{is_toplevel}
-use Rattle.wl_shell.specs.Shell.{Effect, Stays, Unconfigured, Configures, Maps, Unmaps, xdg_of}
+use Rattle.wl_shell.specs.Shell.{Effect, Maps, Unmaps, xdg_of}
 use Rattle.spec_desktop.specs.Pointer.{first_pointer}
 use Rattle.spec_desktop.specs.Stacking.{Standing, is_of, with_mapped, without_client, without_surface_of}
 use Rattle.spec_desktop.specs.Windows.{Window, mapping_place}
@@ -24,7 +24,6 @@ use Rattle.spec_desktop.specs.Demanding.{effect_of_commit, judge_all}
 use Rattle.spec_desktop.specs.Desktop.{Desktop, Resident, become, become_by, client_at, client_in, owned_of, resident_of, status_in, toplevels_of, with_client}
 use Rattle.spec_desktop.specs.Framing.{FramesToldAt, FramesToldBy, done_due}
 use Rattle.spec_desktop.specs.Happens.{wants_memory}
-use Rattle.spec_desktop.specs.LeftOut.{LeftOut}
 use Rattle.spec_desktop.specs.Replies.{replies}
 use Rattle.spec_desktop.specs.Settling.{EndsAndSettles, becomes, unstruck}
 use Rattle.spec_desktop.specs.Stacked.{all_windows}
@@ -89,13 +88,11 @@ leaves-all : (c : ℕ) (d : Desktop) → LeavesOthers c d d
 leaves-all c d = record { clients = refl; standing = refl; output = refl }
 
 commit-leaves : (effect : Effect) (b : Bool) (c surface : ℕ) (d : Desktop) → LeavesOthers c d (stacked_by effect b c surface d)
-commit-leaves Stays b c surface d = leaves-all c d
-commit-leaves Unconfigured b c surface d = leaves-all c d
-commit-leaves Configures b c surface d = leaves-all c d
 commit-leaves Maps true c surface d = record { clients = refl; standing = without-mapped d.mappings c surface d.standing; output = refl }
 commit-leaves Maps false c surface d = leaves-all c d
 commit-leaves Unmaps true c surface d = record { clients = refl; standing = without-its c surface d.standing; output = refl }
 commit-leaves Unmaps false c surface d = leaves-all c d
+commit-leaves effect b c surface d = leaves-all c d
 
 pub stacked-leaves : (c : ℕ) (demand : Demand) (r : Resident) (windows : List Window) (d : Desktop) → LeavesOthers c d (stacked_for c demand r windows d)
 stacked-leaves c (CommitTree surface) r windows d = commit-leaves (effect_of_commit r surface) (is_toplevel (xdg_of surface r.owned.shell)) c surface d
@@ -122,7 +119,7 @@ gone-since c x d e gone = record {
 
 -- ---- a message
 
-module _ (left : LeftOut) (c : ℕ) (r : Resident) (d e : Desktop) (still : d.pointer ≡ first_pointer) (is : client_at c d ≡ Some r) (alive : r.peer.status ≡ None)
+module _ (c : ℕ) (r : Resident) (d e : Desktop) (still : d.pointer ≡ first_pointer) (is : client_at c d ≡ Some r) (alive : r.peer.status ≡ None)
     (over : is_some (status_in c e) ≡ true) where
   became-gone : (Q : Peer → Type 0) (now : Resident) (on : Desktop) → client_at c on ≡ Some r → Becomes Q c now on e → IsGone c on e
   became-gone Q now on found h =
@@ -144,9 +141,9 @@ module _ (left : LeftOut) (c : ℕ) (r : Resident) (d e : Desktop) (still : d.po
     On = stacked_for c demand (with_peer p r) (all_windows d) d
 
     abbrev Events : List Said
-    Events = replies left c demand (with_peer p r) (changed_for c demand (with_peer p r) d) (all_windows d) d
+    Events = replies c demand (with_peer p r) (changed_for c demand (with_peer p r) d) (all_windows d) d
 
-    does-gone : Does left c demand (with_peer p r) d e → IsGone c d e
+    does-gone : Does c demand (with_peer p r) d e → IsGone c d e
     does-gone h =
         let leaves : LeavesOthers c d On = stacked-leaves c demand Now (all_windows d) d in
         let found : client_at c On ≡ Some r = ap (λ (clients : List (Option Resident)). client_in clients c) leaves.clients ∙ is in
@@ -155,25 +152,25 @@ module _ (left : LeftOut) (c : ℕ) (r : Resident) (d e : Desktop) (still : d.po
         (became-gone (Queues Events Made.peer) Made On found
         (done-back Events c Made r On e found (stacked-still c demand Now (all_windows d) d still) ((changed-steady c demand d Now).0 ∙ steady) told))
 
-    wants-gone : (b : Bool) → WantsOr b (Does left c demand (with_peer p r) d e) c (with_peer p r) d e → IsGone c d e
+    wants-gone : (b : Bool) → WantsOr b (Does c demand (with_peer p r) d e) c (with_peer p r) d e → IsGone c d e
     wants-gone false h = does-gone h
     wants-gone true (inl h) = becomes-gone (LacksMemory p) Now h
     wants-gone true (inr h) = does-gone h
 
-  answers-gone : (judged : Result Demand Refusal) (p : Peer) → p.status ≡ None → Answers left judged c (with_peer p r) d e → IsGone c d e
+  answers-gone : (judged : Result Demand Refusal) (p : Peer) → p.status ≡ None → Answers judged c (with_peer p r) d e → IsGone c d e
   answers-gone (Ok demand) p steady h = wants-gone demand (counted p) steady (wants_memory demand) h
   answers-gone (Err refusal) p steady h = becomes-gone (Errs refusal p) (with_peer p r) h
 
-  takes-gone : (split : Split) → Takes left split c r d e → IsGone c d e
+  takes-gone : (split : Split) → Takes split c r d e → IsGone c d e
   takes-gone (Whole object opcode size) h =
-      answers-gone (judge_all left r object opcode (take (size - 8) (drop 8 r.peer.rest))) (with_rest (drop size r.peer.rest) r.peer) alive h
+      answers-gone (judge_all r object opcode (take (size - 8) (drop 8 r.peer.rest))) (with_rest (drop size r.peer.rest) r.peer) alive h
   takes-gone Bad h = becomes-gone (Errs (display_error InvalidMethod) r.peer) r h
   takes-gone More h = absurd h
 
 pub ended_is_gone : EndedIsGone
-ended_is_gone left c r d e order is serves over =
-    let h : ServesAt left c (Some r) d e = subst (λ (o : Option Resident). ServesAt left c o d e) is serves in
-    takes-gone left c r d e order.pointer is h.0 over (split_of r.peer.rest) h.1
+ended_is_gone c r d e order is serves over =
+    let h : ServesAt c (Some r) d e = subst (λ (o : Option Resident). ServesAt c o d e) is serves in
+    takes-gone c r d e order.pointer is h.0 over (split_of r.peer.rest) h.1
 
 -- ---- it ends by itself
 
@@ -245,4 +242,4 @@ left-at None c done d e is order h = subst (IsGone c d) (sym h.1) (none-gone c d
 left-at (Some r) c done d e is order h = left-by r.peer.status c r done d e refl is order h
 
 pub left_is_gone : LeftIsGone
-left_is_gone left c done d e order h = left-at (client_at c d) c done d e refl order h
+left_is_gone c done d e order h = left-at (client_at c d) c done d e refl order h

@@ -10,7 +10,6 @@ use Rattle.spec_desktop.specs.Changing.{changed_for, stacked_for}
 use Rattle.spec_desktop.specs.Demand.{Demand}
 use Rattle.spec_desktop.specs.Demanding.{judge_all}
 use Rattle.spec_desktop.specs.Desktop.{Desktop, Resident, arrival, become, become_by, client_at, client_in, owned_in, owned_of, toplevels_of}
-use Rattle.spec_desktop.specs.LeftOut.{LeftOut}
 use Rattle.spec_desktop.specs.Stacked.{all_windows}
 use Rattle.law_desktop.specs.Laws.{AreApart}
 use Rattle.law_desktop.proofs.Runs.Places.{client-become, other-become}
@@ -59,8 +58,8 @@ order-apart d order = all-apart d.standing (λ c. at-apart (client_at c d) (topl
 
 -- ---- what is demanded is done
 
-module _ (left : LeftOut) (c : ℕ) (r : Resident) (d : Desktop) (is : client_at c d ≡ Some r) (alive : r.peer.status ≡ None) (order : InOrder d)
-    (rest : List ℕ) (object opcode : ℕ) (body : List ℕ) (demand : Demand) (judged : judge_all left r object opcode body ≡ Ok demand) where
+module _ (c : ℕ) (r : Resident) (d : Desktop) (is : client_at c d ≡ Some r) (alive : r.peer.status ≡ None) (order : InOrder d)
+    (rest : List ℕ) (object opcode : ℕ) (body : List ℕ) (demand : Demand) (judged : judge_all r object opcode body ≡ Ok demand) where
   abbrev Now : Resident
   Now = counted_of r rest
 
@@ -77,14 +76,14 @@ module _ (left : LeftOut) (c : ℕ) (r : Resident) (d : Desktop) (is : client_at
   pub made-in-order : (q : Peer) → (q.status ≡ None → IsPeerOf (changed_for c demand (counted_of r rest) d) q)
       → InOrder (become c (changed_for c demand (counted_of r rest) d) q (stacked_for c demand (counted_of r rest) (all_windows d) d))
   made-in-order q same =
-      of-all _ (made-keeps NoneStands InOrderBy in-order-kept left (demands-in-order left) c r d d is alive (to-all d order) rest object opcode body demand judged q same)
+      of-all _ (made-keeps NoneStands InOrderBy in-order-kept demands-in-order c r d d is alive (to-all d order) rest object opcode body demand judged q same)
 
   module _ (stand : ShownStand d) where
     here : AreShown c Made.owned On.standing
     here =
         let was : AreShown c r.owned d.standing = subst (λ o. AreShown c o d.standing) (ap owned_of is) (stand.each c) in
         let owns : OwnsInOrder r = clients_are_in_order d c r order is alive in
-        let fits = demand-shown left c r rest object opcode body demand d judged owns (fit-of c r.owned d.standing was) was.turned in
+        let fits = demand-shown c r rest object opcode body demand d judged owns (fit-of c r.owned d.standing was) was.turned in
         shown-of c Made.owned On.standing fits.0 fits.1
 
     -- the toplevels of the others stand as before

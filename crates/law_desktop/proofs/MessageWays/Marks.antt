@@ -55,7 +55,7 @@ one-of false false true e f = absurd (differ (sym f))
 one-of false false false e f = absurd (differ e)
 
 pub struck_marks : StruckMarks
-struck_marks left c r d path e s has x y = (least, most)
+struck_marks c r d path e s has x y = (least, most)
   where
     by : (marks_at_least d s.own x y ≡ true) ⊎ (marks_at_least s.own e x y ≡ true) → (marks_at_least d s.own x y ≡ true) ⊎ (has_window_at c x y s.own ≡ true)
     by (inl own) = inl own

@@ -15,7 +15,6 @@ use Rattle.spec_desktop.specs.Demand.{Demand}
 use Rattle.spec_desktop.specs.Demanding.{judge_all}
 use Rattle.spec_desktop.specs.Desktop.{Desktop, Resident, become, become_by, client_at, client_in, owned_in, owned_of, status_in, with_client}
 use Rattle.spec_desktop.specs.Happens.{AnswersThen, BecomesThen, DoesThen, ServesThen, TakesThen, WantsOrThen, done_for, wants_memory}
-use Rattle.spec_desktop.specs.LeftOut.{LeftOut}
 use Rattle.spec_desktop.specs.Replies.{replies}
 use Rattle.spec_desktop.specs.Settling.{QueuesTo, Strike, becomes, ended_by, struck_by, unstruck}
 use Rattle.spec_desktop.specs.Stacked.{all_windows}
@@ -156,8 +155,8 @@ same-size object opcode size a b n e = ap (λ (split : Split). size_of split) e
     size_of Bad = 0
     size_of More = 0
 
-module _ (left : LeftOut) (c : ℕ) (r : Resident) (d e : Desktop) (is : client_at c d ≡ Some r) (alive : r.peer.status ≡ None) (order : InOrder d) where
-  module _ (rest : List ℕ) (object opcode : ℕ) (body : List ℕ) (demand : Demand) (judged : judge_all left r object opcode body ≡ Ok demand) where
+module _ (c : ℕ) (r : Resident) (d e : Desktop) (is : client_at c d ≡ Some r) (alive : r.peer.status ≡ None) (order : InOrder d) where
+  module _ (rest : List ℕ) (object opcode : ℕ) (body : List ℕ) (demand : Demand) (judged : judge_all r object opcode body ≡ Ok demand) where
     abbrev Now : Resident
     Now = counted_of r rest
 
@@ -168,7 +167,7 @@ module _ (left : LeftOut) (c : ℕ) (r : Resident) (d e : Desktop) (is : client_
     On = stacked_for c demand (counted_of r rest) (all_windows d) d
 
     abbrev Events : List Said
-    Events = replies left c demand (counted_of r rest) (changed_for c demand (counted_of r rest) d) (all_windows d) d
+    Events = replies c demand (counted_of r rest) (changed_for c demand (counted_of r rest) d) (all_windows d) d
 
     leaves : LeavesOthers c d On
     leaves = stacked-leaves c demand Now (all_windows d) d
@@ -187,7 +186,7 @@ module _ (left : LeftOut) (c : ℕ) (r : Resident) (d e : Desktop) (is : client_
     living = (changed-steady c demand d Now).0 ∙ alive
 
     -- it is done, and settled
-    does-whole : DoesAlone left demand c (counted_of r rest) d e → Does left c demand (counted_of r rest) d e
+    does-whole : DoesAlone demand c (counted_of r rest) d e → Does c demand (counted_of r rest) d e
     does-whole h =
         subst (λ (x : Desktop). IsTold Events c Made x e) (sym done-is) (is-done Events c Made r On e found on-still living h)
 
@@ -196,18 +195,18 @@ module _ (left : LeftOut) (c : ℕ) (r : Resident) (d e : Desktop) (is : client_
     abbrev IsBehind : Type 0
     IsBehind = (object opcode size : ℕ) → split_of r.peer.rest ≡ Whole object opcode size → rest ≡ drop size r.peer.rest
 
-    struck-so : ShownStand d → IsBehind → IsDemanded left (split_of r.peer.rest) r demand → (path : List Desktop) → IsStruck Events c Made On path e → Struck left c r d path e
+    struck-so : ShownStand d → IsBehind → IsDemanded (split_of r.peer.rest) r demand → (path : List Desktop) → IsStruck Events c Made On path e → Struck c r d path e
     struck-so stand behind demanded path h =
         let lived : h.own ≡ become_by None c Made h.told On = h.own_is ∙ ap (λ s. become_by s c Made h.told On) h.lives in
         let same : IsPeerOf Made h.told = told-peer Events Made h.told (Some h.cause) h.unqueued in
         let ordered : InOrder h.own =
-        subst InOrder (sym h.own_is) (made-in-order left c r d is alive order rest object opcode body demand judged h.told (λ lives. same)) in
+        subst InOrder (sym h.own_is) (made-in-order c r d is alive order rest object opcode body demand judged h.told (λ lives. same)) in
         let shown : ShownStand h.own =
-        subst ShownStand (sym h.own_is) (made-shown left c r d is alive order rest object opcode body demand judged stand h.told h.lives (λ lives. same)) in
+        subst ShownStand (sym h.own_is) (made-shown c r d is alive order rest object opcode body demand judged stand h.told h.lives (λ lives. same)) in
         record {
           demand = demand;
           demanded = demanded;
-          meant = judged-is-meant left r object opcode body demand (clients_are_in_order d c r order is alive) judged;
+          meant = judged-is-meant r object opcode body demand (clients_are_in_order d c r order is alive) judged;
           before = Now.peer;
           taken = λ object opcode size came. ap (λ (bytes : List ℕ). counted (with_rest bytes r.peer)) (behind object opcode size came);
           own = h.own;
@@ -230,14 +229,14 @@ module _ (left : LeftOut) (c : ℕ) (r : Resident) (d e : Desktop) (is : client_
         }
 
     -- it is done, and told
-    does-through : ShownStand d → IsBehind → IsDemanded left (split_of r.peer.rest) r demand → DoesAlone left demand c (counted_of r rest) d e
-        → (path : List Desktop) × DoesThen left c demand (counted_of r rest) d (settling_through path e) × RouteBy left true c r d path e
+    does-through : ShownStand d → IsBehind → IsDemanded (split_of r.peer.rest) r demand → DoesAlone demand c (counted_of r rest) d e
+        → (path : List Desktop) × DoesThen c demand (counted_of r rest) d (settling_through path e) × RouteBy true c r d path e
     does-through stand behind demanded h =
         let led-so = led Events c Made r On e found on-still living h in
         let path : List Desktop = led-so.0 in
         (path, subst (λ (x : Desktop). IsLed Events c Made x path e) (sym done-is) led-so.1, routed path led-so.2)
       where
-        routed : (path : List Desktop) → IsRouted Events c Made On path e → RouteBy left true c r d path e
+        routed : (path : List Desktop) → IsRouted Events c Made On path e → RouteBy true c r d path e
         routed path (inl h) = inl h
         routed path (inr h) = inr (struck-so stand behind demanded path h)
 
@@ -256,8 +255,8 @@ module _ (left : LeftOut) (c : ℕ) (r : Resident) (d e : Desktop) (is : client_
   wants-more true Later now wants h = inl h
   wants-more false Later now wants h = absurd (cc)
 
-  answers-whole : (b : Bool) (rest : List ℕ) (object opcode : ℕ) (body : List ℕ) (answer : Result Demand Refusal) → judge_all left r object opcode body ≡ answer
-      → AnswersAs left b answer c (with_peer (with_rest rest r.peer) r) d e → Answers left answer c (with_peer (with_rest rest r.peer) r) d e
+  answers-whole : (b : Bool) (rest : List ℕ) (object opcode : ℕ) (body : List ℕ) (answer : Result Demand Refusal) → judge_all r object opcode body ≡ answer
+      → AnswersAs b answer c (with_peer (with_rest rest r.peer) r) d e → Answers answer c (with_peer (with_rest rest r.peer) r) d e
   answers-whole true rest object opcode body (Ok demand) judged h =
       wants-done (wants_memory demand) _ (counted_of r rest) (does-whole rest object opcode body demand judged h)
   answers-whole false rest object opcode body (Ok demand) judged h =
@@ -265,10 +264,10 @@ module _ (left : LeftOut) (c : ℕ) (r : Resident) (d e : Desktop) (is : client_
   answers-whole true rest object opcode body (Err refusal) judged h = absurd h
   answers-whole false rest object opcode body (Err refusal) judged h = becomes-settled _ (with_peer (with_rest rest r.peer) r) h
 
-  takes-whole : (b : Bool) (split : Split) → TakesAs left b split c r d e → Takes left split c r d e
+  takes-whole : (b : Bool) (split : Split) → TakesAs b split c r d e → Takes split c r d e
   takes-whole b (Whole object opcode size) h =
       let body = take (size - 8) (drop 8 r.peer.rest) in
-      answers-whole b (drop size r.peer.rest) object opcode body (judge_all left r object opcode body) refl h
+      answers-whole b (drop size r.peer.rest) object opcode body (judge_all r object opcode body) refl h
   takes-whole true Bad h = absurd h
   takes-whole false Bad h = becomes-settled _ r h
   takes-whole true More h = absurd h
@@ -279,7 +278,7 @@ module _ (left : LeftOut) (c : ℕ) (r : Resident) (d e : Desktop) (is : client_
   module _ (stand : ShownStand d) where
     -- its client ends at once
     becomes-through : (Q : Peer → Type 0) → ((q : Peer) → Q q → q.status ≡ None → ⊥) → (now : Resident) → Becomes Q c now d e
-        → (path : List Desktop) × BecomesThen Q c now d (settling_through path e) × RouteBy left false c r d path e
+        → (path : List Desktop) × BecomesThen Q c now d (settling_through path e) × RouteBy false c r d path e
     becomes-through Q never now h =
         let same : becomes c now h.0 d ≡ become c now h.0 d = becomes-same c now h.0 d order.pointer in
         let still : (becomes c now h.0 d).pointer ≡ first_pointer =
@@ -300,10 +299,10 @@ module _ (left : LeftOut) (c : ℕ) (r : Resident) (d e : Desktop) (is : client_
     lacks-through false Then now path wants h = absurd (cc)
 
     -- it is answered
-    answers-through : (b : Bool) (rest : List ℕ) (object opcode : ℕ) (body : List ℕ) (answer : Result Demand Refusal) → judge_all left r object opcode body ≡ answer
+    answers-through : (b : Bool) (rest : List ℕ) (object opcode : ℕ) (body : List ℕ) (answer : Result Demand Refusal) → judge_all r object opcode body ≡ answer
         → ((object opcode size : ℕ) → split_of r.peer.rest ≡ Whole object opcode size → rest ≡ drop size r.peer.rest)
-        → ((demand : Demand) → answer ≡ Ok demand → IsDemanded left (split_of r.peer.rest) r demand) → AnswersAs left b answer c (with_peer (with_rest rest r.peer) r) d e
-        → (path : List Desktop) × AnswersThen left answer c (with_peer (with_rest rest r.peer) r) d (settling_through path e) × RouteBy left b c r d path e
+        → ((demand : Demand) → answer ≡ Ok demand → IsDemanded (split_of r.peer.rest) r demand) → AnswersAs b answer c (with_peer (with_rest rest r.peer) r) d e
+        → (path : List Desktop) × AnswersThen answer c (with_peer (with_rest rest r.peer) r) d (settling_through path e) × RouteBy b c r d path e
     answers-through true rest object opcode body (Ok demand) judged behind demanded h =
         let k = does-through rest object opcode body demand judged stand behind (demanded demand refl) h in
         (k.0, wants-through (wants_memory demand) _ (counted_of r rest) k.0 k.1, k.2)
@@ -316,23 +315,23 @@ module _ (left : LeftOut) (c : ℕ) (r : Resident) (d e : Desktop) (is : client_
         becomes-through (Errs refusal (with_rest rest r.peer)) (erred refusal (with_rest rest r.peer)) (with_peer (with_rest rest r.peer) r) h
 
     -- it is taken
-    takes-through : (b : Bool) (split : Split) → split_of r.peer.rest ≡ split → TakesAs left b split c r d e
-        → (path : List Desktop) × TakesThen left split c r d (settling_through path e) × RouteBy left b c r d path e
+    takes-through : (b : Bool) (split : Split) → split_of r.peer.rest ≡ split → TakesAs b split c r d e
+        → (path : List Desktop) × TakesThen split c r d (settling_through path e) × RouteBy b c r d path e
     takes-through b (Whole object opcode size) came h =
         let body = take (size - 8) (drop 8 r.peer.rest) in
-        answers-through b (drop size r.peer.rest) object opcode body (judge_all left r object opcode body) refl
+        answers-through b (drop size r.peer.rest) object opcode body (judge_all r object opcode body) refl
         (λ o p s e. ap (λ (n : ℕ). drop n r.peer.rest) (same-size object opcode size o p s (sym came ∙ e)))
-        (λ demand judged. subst (λ split. IsDemanded left split r demand) (sym came) judged) h
+        (λ demand judged. subst (λ split. IsDemanded split r demand) (sym came) judged) h
     takes-through true Bad came h = absurd h
     takes-through false Bad came h = becomes-through (Errs (display_error InvalidMethod) r.peer) (erred (display_error InvalidMethod) r.peer) r h
     takes-through true More came h = absurd h
     takes-through false More came h = absurd h
 
 pub messages_lead_so : MessagesLeadSo
-messages_lead_so left b c r d e order stand is alive h =
-    let k = takes-through left c r d e is alive order stand b (split_of r.peer.rest) refl h in
-    (k.0, subst (λ o. ServesThen left c o d (settling_through k.0 e)) (sym is) (alive, k.1), k.2)
+messages_lead_so b c r d e order stand is alive h =
+    let k = takes-through c r d e is alive order stand b (split_of r.peer.rest) refl h in
+    (k.0, subst (λ o. ServesThen c o d (settling_through k.0 e)) (sym is) (alive, k.1), k.2)
 
 pub messages_are_served : MessagesAreServed
-messages_are_served left b c r d e order is alive h =
-    subst (λ (o : Option Resident). ServesAt left c o d e) (sym is) (alive, takes-whole left c r d e is alive order b (split_of r.peer.rest) h)
+messages_are_served b c r d e order is alive h =
+    subst (λ (o : Option Resident). ServesAt c o d e) (sym is) (alive, takes-whole c r d e is alive order b (split_of r.peer.rest) h)

@@ -4,7 +4,7 @@ use Rattle.spec_desktop.specs.declared.cause.Cause.{Cause}
 use Rattle.spec_desktop.specs.Peer.{Peer, Queues, has_room, queued}
 use Rattle.spec_desktop.specs.Told.{Said}
 use Rattle.wl_shell.specs.Popups.{is_toplevel}
-use Rattle.wl_shell.specs.Shell.{Effect, Stays, Unconfigured, Configures, Maps, Unmaps, xdg_of}
+use Rattle.wl_shell.specs.Shell.{Effect, Maps, Unmaps, xdg_of}
 use Rattle.spec_desktop.specs.Pointer.{Pointer, first_pointer}
 use Rattle.spec_desktop.specs.Windows.{Window}
 use Rattle.spec_desktop.specs.Changing.{moving_from, stacked_by, stacked_for}
@@ -22,13 +22,11 @@ use Rattle.law_desktop.specs.Ways.{Becomes}
 -- ---- the pointer stays where it is, which is nowhere
 
 pub by-still : (effect : Effect) (b : Bool) (c id : ℕ) (d : Desktop) → (stacked_by effect b c id d).pointer ≡ d.pointer
-by-still Stays b c id d = refl
-by-still Unconfigured b c id d = refl
-by-still Configures b c id d = refl
 by-still Maps true c id d = refl
 by-still Maps false c id d = refl
 by-still Unmaps true c id d = refl
 by-still Unmaps false c id d = refl
+by-still effect b c id d = refl
 
 -- nothing is held, so nothing is moved
 pub moves-nothing : (c surface serial : ℕ) (windows : List Window) (p : Pointer) → p ≡ first_pointer → moving_from c surface serial windows p ≡ p

@@ -1,18 +1,17 @@
--- Where nobody points nobody does after what leaves the pointer alone, whatever is left out.
+-- Where nobody points nobody does after what leaves the pointer alone.
 use Rattle.std.proofs.Common.{◌≡◌, ℕ, List, Bool, true, false, Option, Some, None, refl, ap, sym, subst, ◌∙◌}
 use Rattle.spec_desktop.specs.declared.cause.Cause.{Cause}
 use Rattle.wl_shell.specs.Shell.{Effect, Stays, Unconfigured, Configures, Maps, Unmaps, XdgSurface as Xdg, xdg_at, xdg_of}
 use Rattle.wl_shell.specs.Positioner.{Positioner}
 use Rattle.wl_shell.specs.Popups.{Popped, copying, is_configured, popup_at, repositioning}
 use Rattle.spec_desktop.specs.Stacking.{Standing}
-use Rattle.spec_desktop.specs.Ask.{Ask, Own, CreateSurface, AskSurface, EndObject, GetXdgSurface, DestroyXdgSurface, GetToplevel, Acknowledge, ConfigureAgain, Ignore}
+use Rattle.spec_desktop.specs.Ask.{Ask, GetToplevel}
 use Rattle.spec_desktop.specs.Changing.{Placing, changed_for, drawing, effect_placing, grab_allowed, grabbed, has_focus, holds_grab, in_rising_order, mode_set, placement_now, popup_given_to, tree_committed}
 use Rattle.spec_desktop.specs.Changing.{popup_repositioned}
-use Rattle.spec_desktop.specs.Demand.{Demand, Asks, EndSurface, AskFrame, CommitTree, GetSubsurface, EndSubsurface, SetMode, GetPointer, MakeCursor, Reposition}
-use Rattle.spec_desktop.specs.Demand.{GetPopup, Grab, EndPopup, EndToplevel, Move}
+use Rattle.spec_desktop.specs.Demand.{Demand, Asks, CommitTree, SetMode, GetPointer, Reposition}
+use Rattle.spec_desktop.specs.Demand.{GetPopup, Grab}
 use Rattle.spec_desktop.specs.Demanding.{effect_of_commit}
 use Rattle.spec_desktop.specs.Desktop.{Desktop, Resident, client_at, toplevels_of}
-use Rattle.spec_desktop.specs.LeftOut.{LeftOut}
 use Rattle.spec_desktop.specs.Step.{changed_by, toplevel_given, with_peer, xdg_changed}
 use Rattle.law_desktop.specs.NobodyPoints.{NobodyPoints}
 use Rattle.law_desktop.specs.NobodyPointsLaws.{EmptyIsUnpointed, EndsKeepUnpointed, FramesKeepUnpointed, GrabsAreRefused, GrabsDismiss, MessagesKeepUnpointed, PiecesKeepUnpointed}
@@ -69,16 +68,8 @@ toplevel-heard id xdg None r = (refl, refl)
 toplevel-heard id xdg (Some x) r = (refl, refl)
 
 asked-heard : (ask : Ask) (r : Resident) → HeardSo r (changed_by ask r)
-asked-heard (Own action) r = (refl, refl)
-asked-heard (CreateSurface id version) r = (refl, refl)
-asked-heard (AskSurface id request) r = (refl, refl)
-asked-heard (EndObject id) r = (refl, refl)
-asked-heard (GetXdgSurface id version base surface) r = (refl, refl)
-asked-heard (DestroyXdgSurface id) r = (refl, refl)
 asked-heard (GetToplevel id version xdg) r = toplevel-heard id xdg (xdg_at xdg r.owned.shell) r
-asked-heard (Acknowledge xdg serial) r = (refl, refl)
-asked-heard (ConfigureAgain xdg) r = (refl, refl)
-asked-heard Ignore r = (refl, refl)
+asked-heard ask r = (refl, refl)
 
 mode-heard : (link : ℕ) (b : Bool) (r : Resident) → HeardSo r (mode_set link b r)
 mode-heard link true r = (refl, refl)
@@ -99,23 +90,16 @@ grabbed-heard false xdg r = (refl, refl)
 
 changed-heard : (c : ℕ) (demand : Demand) (r : Resident) (d : Desktop) → HeardSo r (changed_for c demand r d)
 changed-heard c (Asks ask) r d = asked-heard ask r
-changed-heard c (EndSurface id) r d = (refl, refl)
-changed-heard c (AskFrame id version surface) r d = (refl, refl)
 changed-heard c (CommitTree surface) r d = effect-heard (placement_now c r d) surface (effect_of_commit r surface) (xdg_of surface r.owned.shell) (tree_committed surface r)
-changed-heard c (GetSubsurface id version child parent) r d = (refl, refl)
-changed-heard c (EndSubsurface id) r d = (refl, refl)
 changed-heard c (SetMode link synchronised) r d = mode-heard link synchronised r
 changed-heard c (GetPointer id version) r d = drawn-heard (has_focus c d.pointer.focus) (record r { pointers = in_rising_order id r.pointers })
-changed-heard c (MakeCursor surface) r d = (refl, refl)
 changed-heard c (GetPopup id version xdg parent p) r d = popup-heard id xdg parent p (xdg_at xdg r.owned.shell) r
 changed-heard c (Reposition xdg token p) r d = repositioned-heard (placement_now c r d) p (popup_at xdg r.owned.shell) r
 changed-heard c (Grab xdg serial) r d = grabbed-heard (grab_allowed c xdg serial r d) xdg r
-changed-heard c (EndPopup id xdg) r d = (refl, refl)
-changed-heard c (EndToplevel id xdg top) r d = (refl, refl)
-changed-heard c (Move surface serial) r d = (refl, refl)
+changed-heard c demand r d = (refl, refl)
 
-demands-quiet : (left : LeftOut) → DemandsKeep left Quiet
-demands-quiet left c r rest object opcode body demand d judged still quiet =
+demands-quiet : DemandsKeep Quiet
+demands-quiet c r rest object opcode body demand d judged still quiet =
     let now : Resident = counted_of r rest in
     let heard = changed-heard c demand now d in
     record {
@@ -157,10 +141,10 @@ pub empty_is_unpointed : EmptyIsUnpointed
 empty_is_unpointed output = of-all _ (empty-all Any Quiet quiet-kept output)
 
 pub unpointed_stays : UnpointedStays
-unpointed_stays left act done d e leaves nobody h = of-all e (happens-keeps Any Quiet quiet-kept left (demands-quiet left) act done d e leaves (to-all d nobody) h)
+unpointed_stays act done d e leaves nobody h = of-all e (happens-keeps Any Quiet quiet-kept demands-quiet act done d e leaves (to-all d nobody) h)
 
 pub messages_keep_unpointed : MessagesKeepUnpointed
-messages_keep_unpointed left c d e nobody h = of-all e (serves-keeps Any Quiet quiet-kept left (demands-quiet left) c d e (to-all d nobody) h)
+messages_keep_unpointed c d e nobody h = of-all e (serves-keeps Any Quiet quiet-kept demands-quiet c d e (to-all d nobody) h)
 
 pub pieces_keep_unpointed : PiecesKeepUnpointed
 pieces_keep_unpointed c r bytes d nobody is = of-all _ (piece-keeps Any Quiet quiet-kept c r bytes d (to-all d nobody) is)

@@ -3,8 +3,8 @@ use Rattle.std.proofs.Common.{◌≡◌, ◌≤◌, ℕ, ◌+◌, List, [], ◌�
 use Rattle.std.specs.Prelude.{◌⊎◌, fold}
 use Rattle.wl_store.specs.Stores.{Stock}
 use Rattle.spec_desktop.specs.declared.actions.Action.{Action}
-use Rattle.spec_desktop.specs.declared.actions.Action.TheVariants.{Sync, GetRegistry, Bind, CreateRegion, AddToRegion, SubtractFromRegion, DestroyRegion, CreatePool, CreateBuffer, ResizePool, DestroyPool}
-use Rattle.spec_desktop.specs.declared.actions.Action.TheVariants.{DestroyBuffer, CreatePositioner, SetPositioner, DestroyPositioner}
+use Rattle.spec_desktop.specs.declared.actions.Action.TheVariants.{CreateBuffer}
+use Rattle.spec_desktop.specs.declared.actions.Action.TheVariants.{DestroyBuffer}
 use Rattle.spec_desktop.specs.Buffers.{Buffer as Made, Laid, numbered}
 use Rattle.spec_desktop.specs.Objects.{ById, with_id}
 use Rattle.spec_desktop.specs.Peer.{Peer, changed, removed}
@@ -17,11 +17,11 @@ use Rattle.wl_surface.specs.Waiting.{Callback}
 use Rattle.wl_shell.specs.Positioner.{Positioner}
 use Rattle.wl_shell.specs.Shell.{Effect, Stays, Unconfigured, Configures, Maps, Unmaps, XdgSurface, xdg_at, xdg_of}
 use Rattle.wl_shell.specs.Popups.{Popped, copying, is_configured, popup_at, repositioning}
-use Rattle.spec_desktop.specs.Ask.{Ask, Own, CreateSurface, AskSurface, EndObject, GetXdgSurface, DestroyXdgSurface, GetToplevel, Acknowledge, ConfigureAgain, Ignore}
+use Rattle.spec_desktop.specs.Ask.{Ask, Own, CreateSurface, AskSurface, GetToplevel}
 use Rattle.spec_desktop.specs.Changing.{Placing, callbacks_of, changed_for, drawing, effect_placing, placement_now, grab_allowed, grabbed, has_focus, in_rising_order, link_with_id, mode_set, popup_given_to, tree_committed}
 use Rattle.spec_desktop.specs.Changing.{popup_repositioned}
 use Rattle.spec_desktop.specs.Demand.{Demand, Asks, EndSurface, AskFrame, CommitTree, GetSubsurface, EndSubsurface, SetMode, GetPointer, MakeCursor, Reposition}
-use Rattle.spec_desktop.specs.Demand.{GetPopup, Grab, EndPopup, EndToplevel, Move}
+use Rattle.spec_desktop.specs.Demand.{GetPopup, Grab}
 use Rattle.spec_desktop.specs.Demanding.{effect_of_commit}
 use Rattle.spec_desktop.specs.Desktop.{Desktop, Resident}
 use Rattle.spec_desktop.specs.Step.{changed_by, toplevel_given, xdg_changed}
@@ -116,21 +116,9 @@ module _ (n : ℕ) (r : Resident) (next : r.peer.requests ≡ n + 1) (one : OneB
       (created-one n id laid r.peer.buffers r.owned.surfaces one)
 
   own-keeps : (used : ℕ → Bool) (action : Action) → Own_keeps (changed_with used action r.peer)
-  own-keeps used (Sync callback) = own-same
-  own-keeps used (GetRegistry registry) = own-same
-  own-keeps used (Bind id interface version) = own-same
-  own-keeps used (CreateRegion id version) = own-same
-  own-keeps used (AddToRegion id rect) = own-same
-  own-keeps used (SubtractFromRegion id rect) = own-same
-  own-keeps used (DestroyRegion id) = own-same
-  own-keeps used (CreatePool id version size) = own-same
   own-keeps used (CreateBuffer id version laid) = created id laid
-  own-keeps used (ResizePool store size) = own-same
-  own-keeps used (DestroyPool id store) = own-same
-  own-keeps used (CreatePositioner id version) = own-same
-  own-keeps used (SetPositioner id setting) = own-same
-  own-keeps used (DestroyPositioner id) = own-same
   own-keeps used (DestroyBuffer id store) = gone (has_used used (r.peer.buffers id)) r.peer.stores id store
+  own-keeps used action = own-same
 
   asked-keeps : (id : ℕ) (request : Request) → IsRequestFrom r.peer.buffers request
       → OneBuffer (n + 1) r.peer.buffers (with_change id (asking request) r.owned.surfaces)
@@ -145,13 +133,8 @@ module _ (n : ℕ) (r : Resident) (next : r.peer.requests ≡ n + 1) (one : OneB
   ask-keeps (Own action) from = own-keeps (λ number. is_used number r.owned.surfaces) action
   ask-keeps (CreateSurface id version) from = spared (changed_by (CreateSurface id version) r) (refl, fewer-new id r.owned.surfaces)
   ask-keeps (AskSurface id request) from = asked-keeps id request from
-  ask-keeps (EndObject id) from = own-same
-  ask-keeps (GetXdgSurface id version base surface) from = own-same
-  ask-keeps (DestroyXdgSurface id) from = own-same
   ask-keeps (GetToplevel id version xdg) from = spared (changed_by (GetToplevel id version xdg) r) (toplevel-spares id xdg (xdg_at xdg r.owned.shell) r)
-  ask-keeps (Acknowledge xdg serial) from = own-same
-  ask-keeps (ConfigureAgain xdg) from = own-same
-  ask-keeps Ignore from = own-same
+  ask-keeps ask from = own-same
 
   demand-keeps : (c : ℕ) (demand : Demand) (d : Desktop) → IsFrom r.peer.buffers demand → Keeps (changed_for c demand r d)
   demand-keeps c (Asks ask) d from = ask-keeps ask from
@@ -174,9 +157,7 @@ module _ (n : ℕ) (r : Resident) (next : r.peer.requests ≡ n + 1) (one : OneB
   demand-keeps c (Reposition xdg token p) d from =
       spared (changed_for c (Reposition xdg token p) r d) (repositioned-spares (placement_now c r d) p (popup_at xdg r.owned.shell) r)
   demand-keeps c (Grab xdg serial) d from = spared (changed_for c (Grab xdg serial) r d) (grab-spares (grab_allowed c xdg serial r d) xdg r)
-  demand-keeps c (EndPopup id xdg) d from = own-same
-  demand-keeps c (EndToplevel id xdg top) d from = own-same
-  demand-keeps c (Move surface serial) d from = own-same
+  demand-keeps c demand d from = own-same
 
   pub changed-keeps : (c : ℕ) (demand : Demand) (d : Desktop) → IsFrom r.peer.buffers demand → HasOneBuffer (changed_for c demand r d)
   changed-keeps c demand d from =

@@ -41,7 +41,6 @@ use Rattle.spec_desktop.specs.Demand.{Demand, Asks}
 use Rattle.spec_desktop.specs.Demanding.{base_demand, committed_by, demand_by, demand_of, demands, effect_of_commit, judge_all, moved_by_pointer, surface_demand, toplevel_asked, toplevel_destroyed}
 use Rattle.spec_desktop.specs.Demanding.{xdg_asked, if_whole}
 use Rattle.spec_desktop.specs.Desktop.{Resident}
-use Rattle.spec_desktop.specs.LeftOut.{LeftOut}
 use Rattle.spec_desktop.specs.WlPointer.{is_no_cursor}
 use Rattle.spec_desktop.specs.WlSubsurface.{beside, demand_by_link, has_subsurface, is_no_subsurface, link_of_subsurface, placed_beside, subsurface_made}
 use Rattle.spec_desktop.specs.WlSurface.{buffer_of, will_be_whole}
@@ -119,15 +118,11 @@ module _ (r : Resident) where
   surface-froms : (object version : ℕ) (request : WlSurfaceRequest) → Froms (surface_demand r object version request)
   surface-froms object version surface.Destroy = if-froms (is_some (xdg_of object r.owned.shell)) _ _ tt tt
   surface-froms object version (surface.Attach buffer x y) = (buffer, refl)
-  surface-froms object version (surface.Damage x y width height) = tt
-  surface-froms object version (surface.Frame callback) = tt
-  surface-froms object version (surface.SetOpaqueRegion region) = tt
-  surface-froms object version (surface.SetInputRegion region) = tt
   surface-froms object version surface.Commit =
       whole-froms (will_be_whole r object) object _ (committed-froms (xdg_of object r.owned.shell) object (effect_of_commit r object))
   surface-froms object version (surface.SetBufferTransform z) = if-asks (int_le (pos 0) z && int_le z (pos 7)) _ _ tt tt
   surface-froms object version (surface.SetBufferScale z) = if-asks (int_le (pos 1) z) _ _ tt tt
-  surface-froms object version (surface.DamageBuffer x y width height) = tt
+  surface-froms object version request = tt
 
   -- ---- subsurfaces
 
@@ -233,12 +228,8 @@ module _ (r : Resident) where
   demand-froms (ToCompositor (compositor.CreateRegion id)) object version =
       own-froms (action_of (known_of r.peer) object version (ToCompositor (compositor.CreateRegion id)))
   demand-froms (ToSurface request) object version = surface-froms object version request
-  demand-froms (ToSubcompositor subcompositor.Destroy) object version = tt
   demand-froms (ToSubcompositor (subcompositor.GetSubsurface id child parent)) object version = linked-froms object version id child parent
   demand-froms (ToSubsurface request) object version = link-froms (link_of_subsurface object r) object request
-  demand-froms (ToSeat (seat.GetPointer id)) object version = tt
-  demand-froms (ToSeat (seat.GetKeyboard id)) object version = tt
-  demand-froms (ToSeat (seat.GetTouch id)) object version = tt
   demand-froms (ToPointer (pointer.SetCursor serial surface x y)) object version =
       if-froms (surface == 0) _ _ tt (if-froms (is_no_cursor (role_of r surface) || is_some (xdg_of surface r.owned.shell)) _ _ tt tt)
   demand-froms (ToBase request) object version = base-froms object version request
@@ -253,12 +244,15 @@ module _ (r : Resident) where
   demand-froms (ToPool request) object version = own-froms (action_of (known_of r.peer) object version (ToPool request))
   demand-froms (ToBuffer request) object version = own-froms (action_of (known_of r.peer) object version (ToBuffer request))
   demand-froms ToNothing object version = own-froms (action_of (known_of r.peer) object version ToNothing)
+  demand-froms (ToSubcompositor subcompositor.Destroy) object version = tt
+  demand-froms (ToSeat (seat.GetPointer id)) object version = tt
+  demand-froms (ToSeat (seat.GetKeyboard id)) object version = tt
+  demand-froms (ToSeat (seat.GetTouch id)) object version = tt
 
-  pub judged-from : (left : LeftOut) (object opcode : ℕ) (body : List ℕ) (demand : Demand) → judge_all left r object opcode body ≡ Ok demand
+  pub judged-from : (object opcode : ℕ) (body : List ℕ) (demand : Demand) → judge_all r object opcode body ≡ Ok demand
       → IsFrom r.peer.buffers demand
-  judged-from left object opcode body demand e =
-      let heard = judged-hears r.peer.objects r.peer.held object opcode (λ version m. demand_of left r object version m) body demand e in
+  judged-from object opcode body demand e =
+      let heard = judged-hears r.peer.objects r.peer.held object opcode (λ version m. demand_of r object version m) body demand e in
       let said : Message = record { interface = heard.0.interface; opcode = opcode; fields = heard.1 } in
-      let either : Froms (demand_of left r object heard.0.version said) =
-      if-froms (left.requests (request_of said)) _ _ tt (demand-froms (request_of said) object heard.0.version) in
+      let either : Froms (demand_of r object heard.0.version said) = demand-froms (request_of said) object heard.0.version in
       subst (λ (o : Result Demand Refusal). Froms o) heard.3 either

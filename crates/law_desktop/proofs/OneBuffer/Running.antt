@@ -22,7 +22,6 @@ use Rattle.spec_desktop.specs.Demanding.{judge_all}
 use Rattle.spec_desktop.specs.Desktop.{Desktop, Resident, arrival, client_at, client_in, empty, place, resident_of, toplevels_of, with_client, with_number, with_place}
 use Rattle.spec_desktop.specs.Happens.{AnswersThen, BecomesThen, ChangesThen, ConnectsThen, DoesThen, FeedsAt, Happens, IsFedAt, LeavesThen, Reaches, ServesThen, StopsAt, TakesThen, WantsOrThen}
 use Rattle.spec_desktop.specs.Happens.{changed_so, done_for, ending, settling, wants_memory}
-use Rattle.spec_desktop.specs.LeftOut.{LeftOut}
 use Rattle.spec_desktop.specs.Replies.{replies}
 use Rattle.spec_desktop.specs.Settling.{Midstep, QueuesTo, Strike, becomes, unstruck}
 use Rattle.spec_desktop.specs.Stacked.{all_windows}
@@ -130,7 +129,7 @@ queued-has events r q why h one =
     let more = has-more events r.peer q why h in
     has-same r (with_peer q r) (ap (λ (p : Peer). p.requests) more.1) (ap (λ (p : Peer). p.buffers) more.1) refl one
 
-module _ (left : LeftOut) (c : ℕ) (new : Desktop) where
+module _ (c : ℕ) (new : Desktop) where
   becomes-known : (Q : Peer → Type 0) → ((q : Peer) → Q q → HasEnded q) → (r there : Resident) (d : Desktop)
       → client_at c d ≡ Some there → BecomesThen Q c r d (settling new) → Known c new
   becomes-known Q ends r there d found h =
@@ -139,23 +138,23 @@ module _ (left : LeftOut) (c : ℕ) (new : Desktop) where
       (subst (λ (q : Peer). Known c (becomes c r q d)) (sym k.2) (becomes-ended c r there k.0 k.1 d found)) h.2
 
   does-known : (r : Resident) (rest : List ℕ) (object opcode : ℕ) (body : List ℕ) (demand : Demand) (d : Desktop)
-      → judge_all left r object opcode body ≡ Ok demand → client_at c d ≡ Some r → HasOneBuffer r
-      → DoesThen left c demand (with_peer (counted (with_rest rest r.peer)) r) d (settling new) → Known c new
+      → judge_all r object opcode body ≡ Ok demand → client_at c d ≡ Some r → HasOneBuffer r
+      → DoesThen c demand (with_peer (counted (with_rest rest r.peer)) r) d (settling new) → Known c new
   does-known r rest object opcode body demand d judged found one h =
       let s : Resident = with_peer (counted (with_rest rest r.peer)) r in
       let changed : Resident = changed_for c demand s d in
       let done : Desktop = done_for c demand s d in
-      let from : IsFrom s.peer.buffers demand = judged-from r left object opcode body demand judged in
+      let from : IsFrom s.peer.buffers demand = judged-from r object opcode body demand judged in
       let after : HasOneBuffer changed = changed-keeps r.peer.requests s refl one c demand d from in
       let told : Resident = with_peer h.0 changed in
-      let it : HasOneBuffer told = queued-has (replies left c demand s changed (all_windows d) d) changed h.0 h.1 h.2 after in
+      let it : HasOneBuffer told = queued-has (replies c demand s changed (all_windows d) d) changed h.0 h.1 h.2 after in
       let now : Desktop = with_client c (Some told) done in
       let there : client_at c done ≡ Some r = ap (λ (clients : List (Option Resident)). client_in clients c) (done-clients_stay c demand s d) ∙ found in
       settling-known c new (changed_so c demand s d h.0 h.1) (known-so c now (Some told) (number-same done.clients c (Some told) r there) it) h.3
 
   wants-known : (b : Bool) (r : Resident) (rest : List ℕ) (object opcode : ℕ) (body : List ℕ) (demand : Demand) (d : Desktop)
-      → judge_all left r object opcode body ≡ Ok demand → client_at c d ≡ Some r → HasOneBuffer r
-      → WantsOrThen b (DoesThen left c demand (with_peer (counted (with_rest rest r.peer)) r) d (settling new)) c
+      → judge_all r object opcode body ≡ Ok demand → client_at c d ≡ Some r → HasOneBuffer r
+      → WantsOrThen b (DoesThen c demand (with_peer (counted (with_rest rest r.peer)) r) d (settling new)) c
       (with_peer (counted (with_rest rest r.peer)) r) d (settling new) → Known c new
   wants-known false r rest object opcode body demand d judged found one h = does-known r rest object opcode body demand d judged found one h
   wants-known true r rest object opcode body demand d judged found one (inl h) =
@@ -163,8 +162,8 @@ module _ (left : LeftOut) (c : ℕ) (new : Desktop) where
       (with_peer (counted (with_rest rest r.peer)) r) r d found h
   wants-known true r rest object opcode body demand d judged found one (inr h) = does-known r rest object opcode body demand d judged found one h
 
-  takes-known : (split : Split) (r : Resident) (d : Desktop) → client_at c d ≡ Some r → HasOneBuffer r → TakesThen left split c r d (settling new) → Known c new
-  takes-known (Message object opcode size) r d found one h = at (judge_all left r object opcode body) refl h
+  takes-known : (split : Split) (r : Resident) (d : Desktop) → client_at c d ≡ Some r → HasOneBuffer r → TakesThen split c r d (settling new) → Known c new
+  takes-known (Message object opcode size) r d found one h = at (judge_all r object opcode body) refl h
     where
       rest : List ℕ
       rest = drop size r.peer.rest
@@ -172,8 +171,8 @@ module _ (left : LeftOut) (c : ℕ) (new : Desktop) where
       body : List ℕ
       body = take (size - 8) (drop 8 r.peer.rest)
 
-      at : (judged : Result Demand Refusal) → judge_all left r object opcode body ≡ judged
-          → AnswersThen left judged c (with_peer (with_rest rest r.peer) r) d (settling new) → Known c new
+      at : (judged : Result Demand Refusal) → judge_all r object opcode body ≡ judged
+          → AnswersThen judged c (with_peer (with_rest rest r.peer) r) d (settling new) → Known c new
       at (Ok demand) e k = wants-known (wants_memory demand) r rest object opcode body demand d e found one k
       at (Err refusal) e k =
           becomes-known (Errs refusal (with_rest rest r.peer)) (λ q errs. erred-ended refusal (with_rest rest r.peer) q errs)
@@ -182,7 +181,7 @@ module _ (left : LeftOut) (c : ℕ) (new : Desktop) where
       becomes-known (Errs (display_error InvalidMethod) r.peer) (λ q errs. erred-ended (display_error InvalidMethod) r.peer q errs) r r d found h
   takes-known More r d found one h = absurd h
 
-  serves-known : (o : Option Resident) (d : Desktop) → client_at c d ≡ o → Known c d → ServesThen left c o d (settling new) → Known c new
+  serves-known : (o : Option Resident) (d : Desktop) → client_at c d ≡ o → Known c d → ServesThen c o d (settling new) → Known c new
   serves-known None d found known h = absurd h
   serves-known (Some r) d found known h =
       takes-known (split_of r.peer.rest) r d found (subst (λ (o : Option Resident). HasAt o) found known) h.1
@@ -193,9 +192,9 @@ module _ (left : LeftOut) (c : ℕ) (new : Desktop) where
   stops-known (Some r) mid found known (inr h) =
       settling-known c new (unstruck (becomes c r (ended Memory r.peer) mid)) (becomes-ended c r r Memory r.peer mid found) h.1
 
-reaches-known : (left : LeftOut) (c n : ℕ) (d new : Desktop) → Known c d → Reaches left c n d new → Known c new
-reaches-known left c zero d new known h = known-same c d new h known
-reaches-known left c (suc n) d new known h = serves-known left c new (client_at c h.0) h.0 refl (reaches-known left c n d h.0 known h.1) h.2
+reaches-known : (c n : ℕ) (d new : Desktop) → Known c d → Reaches c n d new → Known c new
+reaches-known c zero d new known h = known-same c d new h known
+reaches-known c (suc n) d new known h = serves-known c new (client_at c h.0) h.0 refl (reaches-known c n d h.0 known h.1) h.2
 
 -- a client that is there changes to one that has one buffer of each number
 put-known : (c a : ℕ) (x : Option Resident) (r : Resident) (d : Desktop) → client_at a d ≡ Some r → (HasOneBuffer r → HasAt x) → Known c d → Known c (with_client a x d)
@@ -210,23 +209,23 @@ put-known c a x r d found keeps known = at (same-or a c)
     at (inl same) = subst (λ (n : ℕ). Known n (with_client a x d)) same (own (subst (λ (n : ℕ). Known n d) (sym same) known))
     at (inr differ) = known-so c (with_client a x d) (client_at c d) (number-other d.clients a c x differ) known
 
-feeds-known : (left : LeftOut) (c : ℕ) (piece : List ℕ) (s : Option Cause) (r : Resident) (d new : Desktop) → client_at c d ≡ Some r → Known c d
-    → FeedsAt left c piece s r d new → Known c new
-feeds-known left c piece (Some cause) r d new found known h = known-same c d new h known
-feeds-known left c piece None r d new found known h =
+feeds-known : (c : ℕ) (piece : List ℕ) (s : Option Cause) (r : Resident) (d new : Desktop) → client_at c d ≡ Some r → Known c d
+    → FeedsAt c piece s r d new → Known c new
+feeds-known c piece (Some cause) r d new found known h = known-same c d new h known
+feeds-known c piece None r d new found known h =
     let come : Resident = with_peer (with_rest (r.peer.rest ++ piece) r.peer) r in
     let start : Known c (with_client c (Some come) d) = put-known c c (Some come) r d found (λ one. has-same r come refl refl refl one) known in
-    stops-known left c new (client_at c h.1) h.1 refl (reaches-known left c h.0 (with_client c (Some come) d) h.1 start h.2) h.3
+    stops-known c new (client_at c h.1) h.1 refl (reaches-known c h.0 (with_client c (Some come) d) h.1 start h.2) h.3
 
-fed-known : (left : LeftOut) (c : ℕ) (piece : List ℕ) (o : Option Resident) (d : Desktop) (done : Done) (new : Desktop) → client_at c d ≡ o → Known c d
-    → IsFedAt left c piece o d done new → Known c new
-fed-known left c piece None d done new found known h = known-same c d new h.1 known
-fed-known left c piece (Some r) d done new found known h = feeds-known left c piece r.peer.status r d new found known h.0
+fed-known : (c : ℕ) (piece : List ℕ) (o : Option Resident) (d : Desktop) (done : Done) (new : Desktop) → client_at c d ≡ o → Known c d
+    → IsFedAt c piece o d done new → Known c new
+fed-known c piece None d done new found known h = known-same c d new h.1 known
+fed-known c piece (Some r) d done new found known h = feeds-known c piece r.peer.status r d new found known h.0
 
 -- ---- what isn't a step of a client's
 
-own-known : (left : LeftOut) (act : Act) (done : Done) (c : ℕ) (d e : Desktop) → client_of act done ≢ Some c → Happens left act done d e → Known c d → Known c e
-own-known left act done c d e not_it h known = at (client_at c d) (own_stays left act done c d e not_it h) known
+own-known : (act : Act) (done : Done) (c : ℕ) (d e : Desktop) → client_of act done ≢ Some c → Happens act done d e → Known c d → Known c e
+own-known act done c d e not_it h known = at (client_at c d) (own_stays act done c d e not_it h) known
   where
     living : (r : Resident) (tops after : List Standing) (now : Option Resident) → LivesOrEnds r tops now after → HasOneBuffer r → HasAt now
     living r tops after None k one = absurd k
@@ -351,25 +350,25 @@ none-of c e = absurd (cc)
 another : (a c : ℕ) → a ≢ c → Some a ≢ Some c
 another a c differ e = differ (same_Some a c e)
 
-feeds : (left : LeftOut) (a c : ℕ) (piece : List ℕ) (done : Done) (d e : Desktop) → Happens left (Feed a piece) done d e → Known c d → Known c e
-feeds left a c piece done d e h known = at (same-or a c)
+feeds : (a c : ℕ) (piece : List ℕ) (done : Done) (d e : Desktop) → Happens (Feed a piece) done d e → Known c d → Known c e
+feeds a c piece done d e h known = at (same-or a c)
   where
     at : (a ≡ c) ⊎ (a ≢ c) → Known c e
     at (inl same) =
-        subst (λ (n : ℕ). Known n e) same (fed-known left a piece (client_at a d) d done e refl (subst (λ (n : ℕ). Known n d) (sym same) known) h)
-    at (inr differ) = own-known left (Feed a piece) done c d e (another a c differ) h known
+        subst (λ (n : ℕ). Known n e) same (fed-known a piece (client_at a d) d done e refl (subst (λ (n : ℕ). Known n d) (sym same) known) h)
+    at (inr differ) = own-known (Feed a piece) done c d e (another a c differ) h known
 
-happens-known : (left : LeftOut) (act : Act) (done : Done) (c : ℕ) (d e : Desktop) → Happens left act done d e → Known c d → Known c e
-happens-known left Connect done c d e h known = connects-known c d e known (lowest d.clients) done refl (connects-with (lowest d.clients) d done e h)
-happens-known left (Feed a piece) done c d e h known = feeds left a c piece done d e h known
-happens-known left (Store a store at bytes) done c d e h known =
+happens-known : (act : Act) (done : Done) (c : ℕ) (d e : Desktop) → Happens act done d e → Known c d → Known c e
+happens-known Connect done c d e h known = connects-known c d e known (lowest d.clients) done refl (connects-with (lowest d.clients) d done e h)
+happens-known (Feed a piece) done c d e h known = feeds a c piece done d e h known
+happens-known (Store a store at bytes) done c d e h known =
     changes-known c d e known (IsStored store at bytes) _ a (client_at a d) done (stored-keeps store at bytes done) refl h
-happens-known left (Leave a) done c d e h known = leaves-known c d e known a (client_at a d) done refl h
-happens-known left (Tick time) done c d e h known = own-known left (Tick time) done c d e (none-of c) h known
-happens-known left (Send a n) done c d e h known = changes-known c d e known (IsSent n) _ a (client_at a d) done (sent-keeps n done) refl h
-happens-known left (Close a) done c d e h known = changes-known c d e known IsClosed _ a (client_at a d) done (closed-keeps done) refl h
-happens-known left (Motion time x y) done c d e h known = own-known left (Motion time x y) done c d e (none-of c) h known
-happens-known left (Button time button pressed) done c d e h known = own-known left (Button time button pressed) done c d e (none-of c) h known
+happens-known (Leave a) done c d e h known = leaves-known c d e known a (client_at a d) done refl h
+happens-known (Tick time) done c d e h known = own-known (Tick time) done c d e (none-of c) h known
+happens-known (Send a n) done c d e h known = changes-known c d e known (IsSent n) _ a (client_at a d) done (sent-keeps n done) refl h
+happens-known (Close a) done c d e h known = changes-known c d e known IsClosed _ a (client_at a d) done (closed-keeps done) refl h
+happens-known (Motion time x y) done c d e h known = own-known (Motion time x y) done c d e (none-of c) h known
+happens-known (Button time button pressed) done c d e h known = own-known (Button time button pressed) done c d e (none-of c) h known
 
 -- ---- all clients
 
@@ -383,17 +382,17 @@ known-of c d have = at (client_at c d) refl
 of-known : (d : Desktop) → ((c : ℕ) → Known c d) → HaveOneBuffer d
 of-known d known c r e = subst (λ (o : Option Resident). HasAt o) e (known c)
 
-pub happens-keeps : (left : LeftOut) (act : Act) (done : Done) (old new : Desktop) → HaveOneBuffer old → Happens left act done old new → HaveOneBuffer new
-happens-keeps left act done old new have h = of-known new (λ c. happens-known left act done c old new h (known-of c old have))
+pub happens-keeps : (act : Act) (done : Done) (old new : Desktop) → HaveOneBuffer old → Happens act done old new → HaveOneBuffer new
+happens-keeps act done old new have h = of-known new (λ c. happens-known act done c old new h (known-of c old have))
 
 pub empty-has : (output : Output) → HaveOneBuffer (empty output)
 empty-has output = of-known (empty output) (λ c. known-so c (empty output) None (no-client output c) tt)
 
-lasts-keeps : (left : LeftOut) (acts : List Act) (dones : List Done) (d e : Desktop) → HaveOneBuffer d → Lasts left acts dones d e → HaveOneBuffer e
-lasts-keeps left [] [] d e have h = subst HaveOneBuffer (sym h) have
-lasts-keeps left [] (done ∷ dones) d e have h = absurd h
-lasts-keeps left (act ∷ acts) [] d e have h = absurd h
-lasts-keeps left (act ∷ acts) (done ∷ dones) d e have h = lasts-keeps left acts dones h.0 e (happens-keeps left act done d h.0 have h.1) h.2
+lasts-keeps : (acts : List Act) (dones : List Done) (d e : Desktop) → HaveOneBuffer d → Lasts acts dones d e → HaveOneBuffer e
+lasts-keeps [] [] d e have h = subst HaveOneBuffer (sym h) have
+lasts-keeps [] (done ∷ dones) d e have h = absurd h
+lasts-keeps (act ∷ acts) [] d e have h = absurd h
+lasts-keeps (act ∷ acts) (done ∷ dones) d e have h = lasts-keeps acts dones h.0 e (happens-keeps act done d h.0 have h.1) h.2
 
-pub run-has : (left : LeftOut) (output : Output) (acts : List Act) (dones : List Done) (d : Desktop) → Lasts left acts dones (empty output) d → HaveOneBuffer d
-run-has left output acts dones d h = lasts-keeps left acts dones (empty output) d (empty-has output) h
+pub run-has : (output : Output) (acts : List Act) (dones : List Done) (d : Desktop) → Lasts acts dones (empty output) d → HaveOneBuffer d
+run-has output acts dones d h = lasts-keeps acts dones (empty output) d (empty-has output) h

@@ -8,7 +8,7 @@ use Rattle.spec_desktop.specs.declared.refusals.ErrorCode.TheVariants as error
 use Rattle.wl_surface.specs.State.{History}
 use Rattle.wl_surface.specs.Surface.{with_role}
 use Rattle.wl_surface.specs.declared.role.Role.{Role}
-use Rattle.wl_surface.specs.declared.role.Role.TheVariants.{Popup as AsPopup, Toplevel as AsToplevel, Subsurface as AsSubsurface, Cursor as AsCursor}
+use Rattle.wl_surface.specs.declared.role.Role.TheVariants.{Popup as AsPopup}
 use Rattle.wl_surface.specs.Surfaces.{history_in, with_change as with_surface_change}
 use Rattle.wl_shell.specs.Agreement.{with_history}
 use Rattle.wl_shell.specs.PopupsKept.{id_with_role, parent_id}
@@ -137,6 +137,4 @@ popup-gone names slots tied kept r number k x h c id d after now is one its keep
 pub role-fits : (role : Option Role) → is_no_popup role ≡ false → ((other : Role) × (role ≡ Some other) × (other ≢ AsPopup)) → ⊥
 role-fits None fits other = none-some other.0 other.1
 role-fits (Some AsPopup) fits other = other.2 (same_Some other.0 AsPopup (sym other.1))
-role-fits (Some AsToplevel) fits other = absurd (cc)
-role-fits (Some AsSubsurface) fits other = absurd (cc)
-role-fits (Some AsCursor) fits other = absurd (cc)
+role-fits role fits other = absurd (cc)

@@ -13,7 +13,7 @@ use Rattle.wl_shell.specs.declared.error.ShellError.TheVariants.{TooMany}
 use Rattle.wl_shell.specs.Kept.{Kept, changing, commit_answer, effect_answer, kept_after, placement_in, popup_placed}
 use Rattle.wl_shell.specs.Popups.{effect_in, in_force, kind_popup, popup_in, waiting_in, with_popup, with_popup_role}
 use Rattle.wl_shell.specs.Positioner.{Placed, place}
-use Rattle.wl_shell.specs.Shell.{Configure as Waits, Effect, Stays, Unconfigured, Configures, Maps, Unmaps, IsPopup, Kind, Popup, RoleObject, Toplevel, Waiting, XdgSurface}
+use Rattle.wl_shell.specs.Shell.{Configure as Waits, Effect, Stays, Configures, Maps, Unmaps, IsPopup, Kind, Popup, RoleObject, Toplevel, Waiting, XdgSurface}
 use Rattle.wl_shell.specs.Shell.{at_stage, is_full, xdg_of}
 use Rattle.spec_desktop.specs.Popups.{parent_corner}
 use Rattle.spec_desktop.specs.Changing.{output_rect, placement_now}
@@ -49,14 +49,12 @@ committed names slots tied kept r c id number bounds at act d new tying after is
 answered-place : (placed by waiting : Option Placed) (effect : Effect) (configures : List Waits) → effect_answer by waiting effect configures ≡ Ok (Configure placed) → by ≡ placed
 answered-place placed by None Stays configures e = absurd (cc)
 answered-place placed by (Some waiting) Stays configures e = absurd (cc)
-answered-place placed by waiting Unconfigured configures e = absurd (cc)
 answered-place placed by waiting Configures configures e = at (is_full configures) e
   where
     at : (b : Bool) → ◌≡◌ {A = Result ShellAct ShellError} (if b then Err TooMany else Ok (Configure by)) (Ok (Configure placed)) → by ≡ placed
     at true e = absurd (cc)
     at false e = cc
-answered-place placed by waiting Maps configures e = absurd (cc)
-answered-place placed by waiting Unmaps configures e = absurd (cc)
+answered-place placed by waiting effect configures e = absurd (cc)
 
 -- the configure of a role object that was placed
 told-so : (at : ℤ × ℤ) (c : ℕ) (r : Resident) (d : Desktop) (bounds : Rect) (placed : Option Placed) (xdg : ℕ) (o : Option RoleObject) → bounds ≡ output_rect d.output

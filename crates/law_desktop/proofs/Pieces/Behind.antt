@@ -3,12 +3,11 @@ use Rattle.std.proofs.Common.{◌≡◌, ℕ, List, Bool, true, false, Option, S
 use Rattle.wl_proto.specs.declared.interface.Interface.TheVariants.{XdgToplevel}
 use Rattle.wl_store.specs.Stores.{Stock}
 use Rattle.spec_desktop.specs.declared.actions.Action.{Action}
-use Rattle.spec_desktop.specs.declared.actions.Action.TheVariants.{Sync, GetRegistry, Bind, CreateRegion, AddToRegion, SubtractFromRegion, DestroyRegion, CreatePool, CreateBuffer, ResizePool, DestroyPool}
-use Rattle.spec_desktop.specs.declared.actions.Action.TheVariants.{DestroyBuffer, CreatePositioner, SetPositioner, DestroyPositioner}
+use Rattle.spec_desktop.specs.declared.actions.Action.TheVariants.{DestroyBuffer}
 use Rattle.spec_desktop.specs.declared.cause.Cause.{Cause}
 use Rattle.spec_desktop.specs.Peer.{Peer, changed, with_rest}
 use Rattle.wl_shell.specs.Shell.{XdgSurface as Xdg, xdg_at}
-use Rattle.spec_desktop.specs.Ask.{Ask, Own, CreateSurface, AskSurface, EndObject, GetXdgSurface, DestroyXdgSurface, GetToplevel, Acknowledge, ConfigureAgain, Ignore}
+use Rattle.spec_desktop.specs.Ask.{Ask, Own, GetToplevel}
 use Rattle.spec_desktop.specs.Desktop.{Resident}
 use Rattle.spec_desktop.specs.Used.{has_used, keeps_store}
 use Rattle.wl_surface.specs.Surfaces.{is_used}
@@ -32,23 +31,10 @@ keeps-stream true stores p s rest = refl
 keeps-stream false stores p s rest = refl
 
 own-stream : (action : Action) (r : Resident) (s : Option Cause) (rest : List ℕ) → own_changed action (with_stream s rest r) ≡ with_stream s rest (own_changed action r)
-own-stream (Sync callback) r s rest = refl
-own-stream (GetRegistry registry) r s rest = refl
-own-stream (Bind id interface version) r s rest = refl
-own-stream (CreateRegion id version) r s rest = refl
-own-stream (AddToRegion id rect) r s rest = refl
-own-stream (SubtractFromRegion id rect) r s rest = refl
-own-stream (DestroyRegion id) r s rest = refl
-own-stream (CreatePool id version size) r s rest = refl
-own-stream (CreateBuffer id version buffer) r s rest = refl
-own-stream (ResizePool store size) r s rest = refl
-own-stream (DestroyPool id store) r s rest = refl
-own-stream (CreatePositioner id version) r s rest = refl
-own-stream (SetPositioner id setting) r s rest = refl
-own-stream (DestroyPositioner id) r s rest = refl
 own-stream (DestroyBuffer id store) r s rest =
     ap (λ (p : Peer). record r { peer = p })
     (keeps-stream (has_used (λ number. is_used number r.owned.surfaces) (r.peer.buffers id)) r.peer.stores (changed (DestroyBuffer id store) r.peer) s rest)
+own-stream action r s rest = refl
 
 toplevel-stream : (id xdg : ℕ) (x : Option Xdg) (r : Resident) (s : Option Cause) (rest : List ℕ) → toplevel_given id xdg x (with_stream s rest r) ≡ with_stream s rest (toplevel_given id xdg x r)
 toplevel-stream id xdg None r s rest = refl
@@ -58,14 +44,7 @@ pub ask-stream : (ask : Ask) (r : Resident) (s : Option Cause) (rest : List ℕ)
 ask-stream (Own action) r s rest = own-stream action r s rest
 ask-stream (GetToplevel id version xdg) r s rest =
     ap (λ (q : Resident). making XdgToplevel id version q) (toplevel-stream id xdg (xdg_at xdg r.owned.shell) r s rest)
-ask-stream (CreateSurface id version) r s rest = refl
-ask-stream (AskSurface id request) r s rest = refl
-ask-stream (EndObject id) r s rest = refl
-ask-stream (GetXdgSurface id version base surface) r s rest = refl
-ask-stream (DestroyXdgSurface id) r s rest = refl
-ask-stream (Acknowledge xdg serial) r s rest = refl
-ask-stream (ConfigureAgain xdg) r s rest = refl
-ask-stream Ignore r s rest = refl
+ask-stream ask r s rest = refl
 
 -- what is done is neither whether the client lives nor what came from it
 pub ask-status : (ask : Ask) (r : Resident) → (changed_by ask r).peer.status ≡ r.peer.status
@@ -83,12 +62,4 @@ ask-behind ask r rest =
 
 pub answers-behind : (ask : Ask) (r : Resident) (rest : List ℕ) → answers_to ask (with_behind rest r) ≡ answers_to ask r
 answers-behind (Own action) r rest = refl
-answers-behind (CreateSurface id version) r rest = refl
-answers-behind (AskSurface id request) r rest = refl
-answers-behind (EndObject id) r rest = refl
-answers-behind (GetXdgSurface id version base surface) r rest = refl
-answers-behind (DestroyXdgSurface id) r rest = refl
-answers-behind (GetToplevel id version xdg) r rest = refl
-answers-behind (Acknowledge xdg serial) r rest = refl
-answers-behind (ConfigureAgain xdg) r rest = refl
-answers-behind Ignore r rest = refl
+answers-behind ask r rest = refl

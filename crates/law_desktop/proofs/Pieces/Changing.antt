@@ -36,17 +36,16 @@ use Rattle.wl_shell.specs.Shell.{Effect, Stays, Unconfigured, Configures, Maps, 
 use Rattle.spec_desktop.specs.Windows.{Window}
 use Rattle.spec_desktop.specs.Changing.{Placing, after_all, callbacks_of, changed_for, drawing, effect_placing, placement_now, grab_allowed, grabbed, has_focus, in_rising_order, is_held_elsewhere, is_latest, mode_set}
 use Rattle.spec_desktop.specs.Changing.{popup_given_to, popup_repositioned, stacked_by, stacked_for, tree_committed, with_kept_move, without_callbacks, without_child}
-use Rattle.spec_desktop.specs.Demand.{Demand, Asks, EndSurface, AskFrame, CommitTree, GetSubsurface, EndSubsurface, SetMode, GetPointer, MakeCursor}
-use Rattle.spec_desktop.specs.Demand.{GetPopup, Reposition, Grab, EndPopup, EndToplevel, Move}
+use Rattle.spec_desktop.specs.Demand.{Demand, Asks, EndSurface, CommitTree, SetMode, GetPointer}
+use Rattle.spec_desktop.specs.Demand.{GetPopup, Reposition, Grab}
 use Rattle.spec_desktop.specs.Demanding.{base_demand, demand_by, demand_of, effect_of_commit, judge_all, surface_demand, xdg_asked}
 use Rattle.spec_desktop.specs.Desktop.{Desktop, Resident}
-use Rattle.spec_desktop.specs.LeftOut.{LeftOut}
 use Rattle.spec_desktop.specs.Requests.{Request, ToCompositor, ToSurface, ToSubcompositor, ToSubsurface, ToSeat, ToPointer, ToBase, ToPositioner, ToXdgSurface, ToToplevel, ToPopup, request_of}
-use Rattle.spec_desktop.specs.Replies.{commit_told, configure_told, new_pointer_told, own_answers, popups_done, releases_unless, replies, reposition_told, role_told}
+use Rattle.spec_desktop.specs.Replies.{commit_told, configure_told, new_pointer_told, own_answers, popups_done, releases, replies, reposition_told, role_told}
 use Rattle.spec_desktop.specs.Stacked.{all_windows}
 use Rattle.spec_desktop.specs.Step.{making, removing, with_peer, with_surfaces, xdg_changed, xdg_configured}
 use Rattle.spec_desktop.specs.Happens.{done_for}
-use Rattle.spec_desktop.specs.WlSubsurface.{demand_by_link, link_of_subsurface, past_limit}
+use Rattle.spec_desktop.specs.WlSubsurface.{demand_by_link, link_of_subsurface}
 use Rattle.spec_desktop.specs.XdgPopup.{popup_asked}
 use Rattle.law_desktop.proofs.Pieces.Behind.{answers-behind, ask-behind, with_behind}
 use Rattle.law_desktop.proofs.Pieces.Places.{holder-longer, longer_in, windows-longer}
@@ -82,21 +81,11 @@ popup-asks (Some x) r object (popup.Reposition positioner token) rest = refl
 
 surface-asks : (r : Resident) (object version : ℕ) (request : WlSurfaceRequest) (rest : List ℕ) → surface_demand (with_behind rest r) object version request ≡ surface_demand r object version request
 surface-asks r object version surface.Destroy rest = refl
-surface-asks r object version (surface.Attach buffer x y) rest = refl
-surface-asks r object version (surface.Damage x y width height) rest = refl
-surface-asks r object version (surface.Frame callback) rest = refl
-surface-asks r object version (surface.SetOpaqueRegion region) rest = refl
-surface-asks r object version (surface.SetInputRegion region) rest = refl
-surface-asks r object version surface.Commit rest = refl
-surface-asks r object version (surface.SetBufferTransform transform) rest = refl
-surface-asks r object version (surface.SetBufferScale scale) rest = refl
-surface-asks r object version (surface.DamageBuffer x y width height) rest = refl
+surface-asks r object version request rest = refl
 
 base-asks : (r : Resident) (object version : ℕ) (request : XdgWmBaseRequest) (rest : List ℕ) → base_demand (with_behind rest r) object version request ≡ base_demand r object version request
 base-asks r object version base.Destroy rest = refl
-base-asks r object version (base.CreatePositioner id) rest = refl
-base-asks r object version (base.GetXdgSurface id surface) rest = refl
-base-asks r object version (base.Pong serial) rest = refl
+base-asks r object version request rest = refl
 
 demand-by : (request : Request) (r : Resident) (object version : ℕ) (rest : List ℕ) → demand_by request (with_behind rest r) object version ≡ demand_by request r object version
 demand-by (ToCompositor (compositor.CreateSurface id)) r object version rest = refl
@@ -114,28 +103,27 @@ demand-by (ToToplevel request) r object version rest = refl
 demand-by (ToPopup request) r object version rest = popup-asks (xdg_with object r.owned.shell) r object request rest
 demand-by request r object version rest = refl
 
-module _ (left : LeftOut) where
-  demand-of : (r : Resident) (object version : ℕ) (m : Message) (rest : List ℕ) → demand_of left (with_behind rest r) object version m ≡ demand_of left r object version m
-  demand-of r object version m rest =
-      ap (λ (asked : Result Demand Refusal). if left.requests (request_of m) then past_limit else asked) (demand-by (request_of m) r object version rest)
+demand-of : (r : Resident) (object version : ℕ) (m : Message) (rest : List ℕ) → demand_of (with_behind rest r) object version m ≡ demand_of r object version m
+demand-of r object version m rest =
+    demand-by (request_of m) r object version rest
 
-  judged-same : (objects : Objects) (held : ℕ) (ask other : Message → Result Demand Refusal) (request : Result Message ProtoError) → ((m : Message) → ask m ≡ other m)
-      → judged objects held ask request ≡ judged objects held other request
-  judged-same objects held ask other (Err error) e = refl
-  judged-same objects held ask other (Ok m) e =
-      ap (λ (asked : Result Demand Refusal). if list_all (fits objects) (objects_named m) then after_new_id objects held (new_id_in m) asked else Err (display_error InvalidMethod)) (e m)
+judged-same : (objects : Objects) (held : ℕ) (ask other : Message → Result Demand Refusal) (request : Result Message ProtoError) → ((m : Message) → ask m ≡ other m)
+    → judged objects held ask request ≡ judged objects held other request
+judged-same objects held ask other (Err error) e = refl
+judged-same objects held ask other (Ok m) e =
+    ap (λ (asked : Result Demand Refusal). if list_all (fits objects) (objects_named m) then after_new_id objects held (new_id_in m) asked else Err (display_error InvalidMethod)) (e m)
 
-  judged-at : (r : Resident) (object opcode : ℕ) (body rest : List ℕ) (o : Option Object)
-      → judged_at r.peer.objects r.peer.held (λ version m. demand_of left (with_behind rest r) object version m) opcode body o
-      ≡ judged_at r.peer.objects r.peer.held (λ version m. demand_of left r object version m) opcode body o
-  judged-at r object opcode body rest None = refl
-  judged-at r object opcode body rest (Some o) =
-      judged-same r.peer.objects r.peer.held (λ m. demand_of left (with_behind rest r) object o.version m) (λ m. demand_of left r object o.version m) (decoded o.interface o.version opcode body)
-      (λ m. demand-of r object o.version m rest)
+judged-at : (r : Resident) (object opcode : ℕ) (body rest : List ℕ) (o : Option Object)
+    → judged_at r.peer.objects r.peer.held (λ version m. demand_of (with_behind rest r) object version m) opcode body o
+    ≡ judged_at r.peer.objects r.peer.held (λ version m. demand_of r object version m) opcode body o
+judged-at r object opcode body rest None = refl
+judged-at r object opcode body rest (Some o) =
+    judged-same r.peer.objects r.peer.held (λ m. demand_of (with_behind rest r) object o.version m) (λ m. demand_of r object o.version m) (decoded o.interface o.version opcode body)
+    (λ m. demand-of r object o.version m rest)
 
-  -- a message asks the same
-  pub judged-behind : (r : Resident) (object opcode : ℕ) (body rest : List ℕ) → judge_all left (with_behind rest r) object opcode body ≡ judge_all left r object opcode body
-  judged-behind r object opcode body rest = judged-at r object opcode body rest (r.peer.objects object)
+-- a message asks the same
+pub judged-behind : (r : Resident) (object opcode : ℕ) (body rest : List ℕ) → judge_all (with_behind rest r) object opcode body ≡ judge_all r object opcode body
+judged-behind r object opcode body rest = judged-at r object opcode body rest (r.peer.objects object)
 
 -- ---- what it changes of its client
 
@@ -187,21 +175,15 @@ module _ (c : ℕ) (more : List ℕ) where
   done-behind (EndSurface id) r d rest =
       let bare : Resident = after_all r (with_surfaces (destroyed_in id r.owned.surfaces) (record r { subsurfaces = map (without_child id) r.subsurfaces })) in
       ap (λ (p : Peer). removing id (with_peer p (without_callbacks (callbacks_of id r) bare))) (without-behind (callbacks_of id r) bare.peer rest)
-  done-behind (AskFrame id version surface) r d rest = refl
   done-behind (CommitTree surface) r d rest = effect-behind (placement_now c r d) surface (effect_of_commit r surface) (xdg_of surface r.owned.shell) (tree_committed surface r) rest
-  done-behind (GetSubsurface id version child parent) r d rest = refl
-  done-behind (EndSubsurface id) r d rest = refl
   done-behind (SetMode link synchronised) r d rest = mode-behind link synchronised r rest
   done-behind (GetPointer id version) r d rest =
       ap (λ (q : Resident). making WlPointer id version q) (drawing-behind (has_focus c d.pointer.focus) (record r { pointers = in_rising_order id r.pointers }) rest)
-  done-behind (MakeCursor surface) r d rest = refl
   done-behind (GetPopup id version xdg parent p) r d rest = ap (λ (q : Resident). making XdgPopup id version q) (popup-behind id xdg parent p (xdg_at xdg r.owned.shell) r rest)
   done-behind (Reposition xdg token p) r d rest = repositioned-behind (placement_now c r d) p (popup_at xdg r.owned.shell) r rest
   done-behind (Grab xdg serial) r d rest =
       ap (λ (b : Bool). grabbed b xdg (with_behind rest r)) (allowed-behind xdg serial r d rest) ∙ grab-behind (grab_allowed c xdg serial r d) xdg r rest
-  done-behind (EndPopup id xdg) r d rest = refl
-  done-behind (EndToplevel id xdg top) r d rest = refl
-  done-behind (Move surface serial) r d rest = refl
+  done-behind demand r d rest = refl
 
   -- ---- what it is answered with
 
@@ -214,12 +196,9 @@ module _ (c : ℕ) (more : List ℕ) where
   configure-behind (Some object) xdg r d rest = ap (λ (told : List Said). told ++ xdg_configured xdg r.peer.serial ∷ []) (role-behind object.kind object.id r d rest)
 
   commit-behind : (effect : Effect) (x : Option Xdg) (r : Resident) (d : Desktop) (rest : List ℕ) → commit_told c effect x (with_behind rest r) (longer_in c more d) ≡ commit_told c effect x r d
-  commit-behind Stays x r d rest = refl
-  commit-behind Unconfigured x r d rest = refl
   commit-behind Configures None r d rest = refl
   commit-behind Configures (Some x) r d rest = configure-behind x.role x.id r d rest
-  commit-behind Maps x r d rest = refl
-  commit-behind Unmaps x r d rest = refl
+  commit-behind effect x r d rest = refl
 
   reposition-behind : (o : Option Popped) (token : ℕ) (p : Positioner) (r : Resident) (d : Desktop) (rest : List ℕ)
       → reposition_told c (with_behind rest r) (longer_in c more d) token p o ≡ reposition_told c r d token p o
@@ -233,61 +212,31 @@ module _ (c : ℕ) (more : List ℕ) where
   own-behind : (demand : Demand) (r : Resident) (windows : List Window) (d : Desktop) (rest : List ℕ)
       → own_answers c demand (with_behind rest r) windows (longer_in c more d) ≡ own_answers c demand r windows d
   own-behind (Asks ask) r windows d rest = answers-behind ask r rest
-  own-behind (EndSurface id) r windows d rest = refl
-  own-behind (AskFrame id version surface) r windows d rest = refl
   own-behind (CommitTree surface) r windows d rest = commit-behind (effect_of_commit r surface) (xdg_of surface r.owned.shell) r d rest
-  own-behind (GetSubsurface id version child parent) r windows d rest = refl
-  own-behind (EndSubsurface id) r windows d rest = refl
-  own-behind (SetMode link synchronised) r windows d rest = refl
   own-behind (GetPointer id version) r windows d rest = pointer-behind (has_focus c d.pointer.focus) id r.peer.serial windows d
-  own-behind (MakeCursor surface) r windows d rest = refl
-  own-behind (GetPopup id version xdg parent p) r windows d rest = refl
   own-behind (Reposition xdg token p) r windows d rest = reposition-behind (popup_at xdg r.owned.shell) token p r d rest
-  own-behind (Grab xdg serial) r windows d rest = refl
-  own-behind (EndPopup id xdg) r windows d rest = refl
-  own-behind (EndToplevel id xdg top) r windows d rest = refl
-  own-behind (Move surface serial) r windows d rest = refl
-
-  releases-behind : (b : Bool) (old new : Resident) (rest : List ℕ) → releases_unless b (with_behind rest old) (with_behind rest new) ≡ releases_unless b old new
-  releases-behind true old new rest = refl
-  releases-behind false old new rest = refl
+  own-behind demand r windows d rest = refl
 
   -- the same is told
-  pub replies-behind : (left : LeftOut) (demand : Demand) (old new : Resident) (windows : List Window) (d : Desktop) (rest : List ℕ)
-      → replies left c demand (with_behind rest old) (with_behind rest new) windows (longer_in c more d) ≡ replies left c demand old new windows d
-  replies-behind left demand old new windows d rest =
-      ap (λ (told : List Said). told ++ releases_unless left.releases (with_behind rest old) (with_behind rest new) ++ popups_done old new) (own-behind demand old windows d rest)
-      ∙ ap (λ (told : List Said). own_answers c demand old windows d ++ told ++ popups_done old new) (releases-behind left.releases old new rest)
+  pub replies-behind : (demand : Demand) (old new : Resident) (windows : List Window) (d : Desktop) (rest : List ℕ)
+      → replies c demand (with_behind rest old) (with_behind rest new) windows (longer_in c more d) ≡ replies c demand old new windows d
+  replies-behind demand old new windows d rest =
+      ap (λ (told : List Said). told ++ releases old new ++ popups_done old new) (own-behind demand old windows d rest)
 
   -- ---- what it does to the stack of toplevels and to the pointer
 
   commit-stacks : (effect : Effect) (toplevel : Bool) (surface : ℕ) (d : Desktop)
       → stacked_by effect toplevel c surface (longer_in c more d) ≡ longer_in c more (stacked_by effect toplevel c surface d)
-  commit-stacks Stays toplevel surface d = refl
-  commit-stacks Unconfigured toplevel surface d = refl
-  commit-stacks Configures toplevel surface d = refl
   commit-stacks Maps true surface d = refl
   commit-stacks Maps false surface d = refl
   commit-stacks Unmaps true surface d = refl
   commit-stacks Unmaps false surface d = refl
+  commit-stacks effect toplevel surface d = refl
 
   stacks : (demand : Demand) (r : Resident) (windows : List Window) (d : Desktop) (rest : List ℕ)
       → stacked_for c demand (with_behind rest r) windows (longer_in c more d) ≡ longer_in c more (stacked_for c demand r windows d)
-  stacks (Asks ask) r windows d rest = refl
-  stacks (EndSurface id) r windows d rest = refl
-  stacks (AskFrame id version surface) r windows d rest = refl
   stacks (CommitTree surface) r windows d rest = commit-stacks (effect_of_commit r surface) (is_toplevel (xdg_of surface r.owned.shell)) surface d
-  stacks (GetSubsurface id version child parent) r windows d rest = refl
-  stacks (EndSubsurface id) r windows d rest = refl
-  stacks (SetMode link synchronised) r windows d rest = refl
-  stacks (GetPointer id version) r windows d rest = refl
-  stacks (MakeCursor surface) r windows d rest = refl
-  stacks (GetPopup id version xdg parent p) r windows d rest = refl
-  stacks (Reposition xdg token p) r windows d rest = refl
-  stacks (Grab xdg serial) r windows d rest = refl
-  stacks (EndPopup id xdg) r windows d rest = refl
-  stacks (EndToplevel id xdg top) r windows d rest = refl
-  stacks (Move surface serial) r windows d rest = refl
+  stacks demand r windows d rest = refl
 
   pub stands-behind : (demand : Demand) (r : Resident) (d : Desktop) (rest : List ℕ) → done_for c demand (with_behind rest r) (longer_in c more d) ≡ longer_in c more (done_for c demand r d)
   stands-behind demand r d rest =

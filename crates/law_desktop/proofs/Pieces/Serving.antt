@@ -11,14 +11,13 @@ use Rattle.spec_desktop.specs.declared.refusals.ErrorCode.TheVariants.{InvalidMe
 use Rattle.spec_desktop.specs.declared.refusals.Refusal.{Refusal}
 use Rattle.spec_desktop.specs.Peer.{Errs, LacksMemory, Peer, QueuesOr, counted, ended, has_room, queued, with_rest}
 use Rattle.spec_desktop.specs.Told.{Said, code_number, display_error, error_told}
-use Rattle.spec_desktop.proofs.Pieces.{split-append, split-long, split-within}
+use Rattle.law_desktop.proofs.Pieces.Splits.{split-append, split-long, split-within}
 use Rattle.spec_desktop.specs.Stacking.{without_client}
 use Rattle.spec_desktop.specs.Windows.{Window}
 use Rattle.spec_desktop.specs.Changing.{changed_for}
 use Rattle.spec_desktop.specs.Demand.{Demand}
 use Rattle.spec_desktop.specs.Demanding.{judge_all}
 use Rattle.spec_desktop.specs.Desktop.{Desktop, Resident, become_by, client_at, client_in, resident_of, with_client}
-use Rattle.spec_desktop.specs.LeftOut.{LeftOut}
 use Rattle.spec_desktop.specs.Replies.{replies}
 use Rattle.spec_desktop.specs.Settling.{EndsAndSettles, QueuesTo, after_status, becomes, pointer_without, unstruck}
 use Rattle.spec_desktop.specs.Stacked.{all_windows}
@@ -111,14 +110,14 @@ module _ (c : ℕ) (more : List ℕ) where
   why-longer None d = refl
   why-longer (Some cause) d = ended-longer c more c cause d
 
-  does-longer : (left : LeftOut) (demand : Demand) (r there : Resident) (d new : Desktop) → client_at c d ≡ Some there → r.peer.status ≡ None → Does left c demand r d new
-      → Does left c demand (more_behind more r) (longer_in c more d) (longer_in c more new)
-  does-longer left demand r there d new is alive h =
+  does-longer : (demand : Demand) (r there : Resident) (d new : Desktop) → client_at c d ≡ Some there → r.peer.status ≡ None → Does c demand r d new
+      → Does c demand (more_behind more r) (longer_in c more d) (longer_in c more new)
+  does-longer demand r there d new is alive h =
       let rest : List ℕ = r.peer.rest ++ more in
       let later : Desktop = longer_in c more d in
       let made : Resident = changed_for c demand r d in
       let on : Desktop = done_for c demand r d in
-      let told : List Said = replies left c demand r made (all_windows d) d in
+      let told : List Said = replies c demand r made (all_windows d) d in
       let quiet = change-quiet c demand d r in
       let kept = queues-kept told made.peer h.0 h.1 h.2 in
       let came : behind true h.0.status h.0.rest more ≡ rest =
@@ -135,27 +134,27 @@ module _ (c : ℕ) (more : List ℕ) where
       let does : goal told (with_behind rest made) (longer_in c more on) = (with_rest rest h.0, h.1, queues-behind told made.peer h.0 h.1 rest h.2, settles) in
       let grown : Resident = changed_for c demand (with_behind rest r) later in
       let same : grown ≡ with_behind rest made = done-behind c more demand r d rest in
-      let says : replies left c demand (with_behind rest r) grown (all_windows later) later ≡ told =
-      ap (λ (m : Resident). replies left c demand (with_behind rest r) m (all_windows later) later) same
-      ∙ ap (λ (windows : List Window). replies left c demand (with_behind rest r) (with_behind rest made) windows later) (windows-longer c more d)
-      ∙ replies-behind c more left demand r made (all_windows d) d rest in
+      let says : replies c demand (with_behind rest r) grown (all_windows later) later ≡ told =
+      ap (λ (m : Resident). replies c demand (with_behind rest r) m (all_windows later) later) same
+      ∙ ap (λ (windows : List Window). replies c demand (with_behind rest r) (with_behind rest made) windows later) (windows-longer c more d)
+      ∙ replies-behind c more demand r made (all_windows d) d rest in
       subst (λ (said : List Said). goal said grown (done_for c demand (with_behind rest r) later)) (sym says)
       (subst (λ (m : Resident). goal told m (done_for c demand (with_behind rest r) later)) (sym same)
       (subst (λ (e : Desktop). goal told (with_behind rest made) e) (sym (stands-behind c more demand r d rest)) does))
 
-  answers-longer : (left : LeftOut) (judged : Result Demand Refusal) (r there : Resident) (d new : Desktop) → client_at c d ≡ Some there → r.peer.status ≡ None → Answers left judged c r d new
-      → Answers left judged c (more_behind more r) (longer_in c more d) (longer_in c more new)
-  answers-longer left (Ok demand) r there d new is alive h =
+  answers-longer : (judged : Result Demand Refusal) (r there : Resident) (d new : Desktop) → client_at c d ≡ Some there → r.peer.status ≡ None → Answers judged c r d new
+      → Answers judged c (more_behind more r) (longer_in c more d) (longer_in c more new)
+  answers-longer (Ok demand) r there d new is alive h =
       let taken : Resident = with_peer (counted r.peer) r in
-      wants-longer (wants_memory demand) (Does left c demand taken d new) (Does left c demand (more_behind more taken) (longer_in c more d) (longer_in c more new)) taken there d new is
-      (λ does. does-longer left demand taken there d new is alive does) h
-  answers-longer left (Err refusal) r there d new is alive h = errs-longer refusal r there d new is h
+      wants-longer (wants_memory demand) (Does c demand taken d new) (Does c demand (more_behind more taken) (longer_in c more d) (longer_in c more new)) taken there d new is
+      (λ does. does-longer demand taken there d new is alive does) h
+  answers-longer (Err refusal) r there d new is alive h = errs-longer refusal r there d new is h
 
   -- ---- messages are taken
 
-  takes-longer : (left : LeftOut) (s : Split) (r : Resident) (d new : Desktop) → client_at c d ≡ Some r → r.peer.status ≡ None → split_of r.peer.rest ≡ s → Takes left s c r d new
-      → Takes left s c (more_behind more r) (longer_in c more d) (longer_in c more new)
-  takes-longer left (Whole object opcode size) r d new is alive e takes =
+  takes-longer : (s : Split) (r : Resident) (d new : Desktop) → client_at c d ≡ Some r → r.peer.status ≡ None → split_of r.peer.rest ≡ s → Takes s c r d new
+      → Takes s c (more_behind more r) (longer_in c more d) (longer_in c more new)
+  takes-longer (Whole object opcode size) r d new is alive e takes =
       let rest = r.peer.rest in
       let within : size ≤ length rest = split-within rest object opcode size e in
       let long : 8 ≤ length rest = split-long rest (λ (y : split_of rest ≡ More). absurd (cc (y, e))) in
@@ -163,15 +162,15 @@ module _ (c : ℕ) (more : List ℕ) where
       let body : take (size - 8) (drop 8 (rest ++ more)) ≡ first =
       ap (λ (xs : List ℕ). take (size - 8) xs) (drop-append-le 8 rest more long) ∙ take-append-le (size - 8) (drop 8 rest) more (omega (arith, length-drop 8 rest)) in
       let after : drop size (rest ++ more) ≡ drop size rest ++ more = drop-append-le size rest more within in
-      let goal = λ (judged : Result Demand Refusal) (tail : List ℕ). Answers left judged c (with_behind tail r) (longer_in c more d) (longer_in c more new) in
-      let answers : goal (judge_all left r object opcode first) (drop size rest ++ more) =
-      answers-longer left (judge_all left r object opcode first) (with_behind (drop size rest) r) r d new is alive takes in
-      let judged : judge_all left (more_behind more r) object opcode (take (size - 8) (drop 8 (rest ++ more))) ≡ judge_all left r object opcode first =
-      judged-behind left r object opcode (take (size - 8) (drop 8 (rest ++ more))) (rest ++ more) ∙ ap (λ (b : List ℕ). judge_all left r object opcode b) body in
+      let goal = λ (judged : Result Demand Refusal) (tail : List ℕ). Answers judged c (with_behind tail r) (longer_in c more d) (longer_in c more new) in
+      let answers : goal (judge_all r object opcode first) (drop size rest ++ more) =
+      answers-longer (judge_all r object opcode first) (with_behind (drop size rest) r) r d new is alive takes in
+      let judged : judge_all (more_behind more r) object opcode (take (size - 8) (drop 8 (rest ++ more))) ≡ judge_all r object opcode first =
+      judged-behind r object opcode (take (size - 8) (drop 8 (rest ++ more))) (rest ++ more) ∙ ap (λ (b : List ℕ). judge_all r object opcode b) body in
       subst (λ (j : Result Demand Refusal). goal j (drop size (rest ++ more))) (sym judged)
-      (subst (λ (tail : List ℕ). goal (judge_all left r object opcode first) tail) (sym after) answers)
-  takes-longer left Bad r d new is alive e takes = errs-longer (display_error InvalidMethod) r r d new is takes
-  takes-longer left More r d new is alive e takes = absurd takes
+      (subst (λ (tail : List ℕ). goal (judge_all r object opcode first) tail) (sym after) answers)
+  takes-longer Bad r d new is alive e takes = errs-longer (display_error InvalidMethod) r r d new is takes
+  takes-longer More r d new is alive e takes = absurd takes
 
   -- the client then has those bytes behind
   pub behind-there : (r : Resident) (d : Desktop) → client_at c d ≡ Some r → r.peer.status ≡ None → client_at c (longer_in c more d) ≡ Some (more_behind more r)
@@ -179,18 +178,18 @@ module _ (c : ℕ) (more : List ℕ) where
       here-longer c more d.clients ∙ ap (λ (o : Option Resident). longer_client true more o) is
       ∙ ap (λ (s : Option Cause). Some (with_behind (behind true s r.peer.rest more) r)) alive
 
-  serves-longer : (left : LeftOut) (d new : Desktop) → Serves left c d new → Serves left c (longer_in c more d) (longer_in c more new)
-  serves-longer left d new h = at (client_at c d) refl h
+  serves-longer : (d new : Desktop) → Serves c d new → Serves c (longer_in c more d) (longer_in c more new)
+  serves-longer d new h = at (client_at c d) refl h
     where
-      at : (o : Option Resident) → client_at c d ≡ o → ServesAt left c o d new → Serves left c (longer_in c more d) (longer_in c more new)
+      at : (o : Option Resident) → client_at c d ≡ o → ServesAt c o d new → Serves c (longer_in c more d) (longer_in c more new)
       at None is k = absurd k
       at (Some r) is k =
-          let some = λ (e : split_of r.peer.rest ≡ More). subst (λ (s : Split). Takes left s c r d new) e k.1 in
-          let takes : Takes left (split_of (r.peer.rest ++ more)) c (more_behind more r) (longer_in c more d) (longer_in c more new) =
-          subst (λ (s : Split). Takes left s c (more_behind more r) (longer_in c more d) (longer_in c more new)) (sym (split-append r.peer.rest more some))
-          (takes-longer left (split_of r.peer.rest) r d new is k.0 refl k.1) in
-          subst (λ (o : Option Resident). ServesAt left c o (longer_in c more d) (longer_in c more new)) (sym (behind-there r d is k.0)) (k.0, takes)
+          let some = λ (e : split_of r.peer.rest ≡ More). subst (λ (s : Split). Takes s c r d new) e k.1 in
+          let takes : Takes (split_of (r.peer.rest ++ more)) c (more_behind more r) (longer_in c more d) (longer_in c more new) =
+          subst (λ (s : Split). Takes s c (more_behind more r) (longer_in c more d) (longer_in c more new)) (sym (split-append r.peer.rest more some))
+          (takes-longer (split_of r.peer.rest) r d new is k.0 refl k.1) in
+          subst (λ (o : Option Resident). ServesAt c o (longer_in c more d) (longer_in c more new)) (sym (behind-there r d is k.0)) (k.0, takes)
 
-  pub reaches-longer : (left : LeftOut) (n : ℕ) (d new : Desktop) → Reaches left c n d new → Reaches left c n (longer_in c more d) (longer_in c more new)
-  reaches-longer left zero d new h = ap (λ (e : Desktop). longer_in c more e) h
-  reaches-longer left (suc n) d new h = (longer_in c more h.0, reaches-longer left n d h.0 h.1, serves-longer left h.0 new h.2)
+  pub reaches-longer : (n : ℕ) (d new : Desktop) → Reaches c n d new → Reaches c n (longer_in c more d) (longer_in c more new)
+  reaches-longer zero d new h = ap (λ (e : Desktop). longer_in c more e) h
+  reaches-longer (suc n) d new h = (longer_in c more h.0, reaches-longer n d h.0 h.1, serves-longer h.0 new h.2)

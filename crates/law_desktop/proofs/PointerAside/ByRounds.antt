@@ -9,7 +9,6 @@ use Rattle.spec_desktop.specs.Changing.{grab_holder}
 use Rattle.spec_desktop.specs.Desktop.{Desktop}
 use Rattle.spec_desktop.specs.Happenings.{Happening, Leads, Single}
 use Rattle.spec_desktop.specs.Happens.{PressedThen, PressesThen, ReleasedThen, ReleasesThen, placed, point_in, with_press, with_release}
-use Rattle.spec_desktop.specs.LeftOut.{LeftOut}
 use Rattle.spec_desktop.specs.Marks.{AreDistinct}
 use Rattle.spec_desktop.specs.Moments.{marks_at_least_of, marks_at_least_through, marks_at_most_of, marks_at_most_through}
 use Rattle.spec_desktop.specs.Settling.{Midstep, PointerActs, unstruck}
@@ -21,7 +20,7 @@ use Rattle.law_desktop.specs.Pointed.Whole.{AreAllRounds}
 use Rattle.law_desktop.proofs.PointerAside.Marking.{last-marks-nothing, marks-own-then-rounds, same-least, same-most}
 use Rattle.law_desktop.proofs.PointerAside.Rounds.{buttons-end, motions-end, rounds-settle}
 
-module _ (left : LeftOut) (d : Desktop) (told : Midstep) (rounds : List Desktop) (mid last : Midstep) (all : AreAllRounds told rounds mid last) where
+module _ (d : Desktop) (told : Midstep) (rounds : List Desktop) (mid last : Midstep) (all : AreAllRounds told rounds mid last) where
   abbrev path : List Desktop
   path = rounds ++ last.desktop ∷ []
 
@@ -43,35 +42,35 @@ module _ (left : LeftOut) (d : Desktop) (told : Midstep) (rounds : List Desktop)
             ∙ ap (λ (b : Bool). most || b) none.1,
       )
 
-  by-rounds : (h : Happening) → Leads left h d path last.desktop → LeadsByRounds left h d told rounds mid last
+  by-rounds : (h : Happening) → Leads h d path last.desktop → LeadsByRounds h d told rounds mid last
   by-rounds h leads = (path, leads, settles.1, own-and-ends)
 
   pressed-leads : (time button : ℕ) → is_press button d.pointer.buttons ≡ true → PointerActs (Press time button (grab_holder d)) (unstruck (with_press button d)) told
-      → Leads left (Single (Button time button true) gave.Button) d path last.desktop
+      → Leads (Single (Button time button true) gave.Button) d path last.desktop
   pressed-leads time button is acts =
       let ends = buttons-end told path last.desktop settles.0 in
       let so : PressedThen time button d (ending_through path last.desktop) = (told, acts, ends.0, ends.1, ends.2) in
       (refl, subst (λ (b : Bool). PressesThen b time button d (ending_through path last.desktop)) (sym is) so)
 
   released-leads : (time button : ℕ) → is_down button d.pointer.buttons ≡ true → PointerActs (Release time button) (unstruck (with_release button d)) told
-      → Leads left (Single (Button time button false) gave.Button) d path last.desktop
+      → Leads (Single (Button time button false) gave.Button) d path last.desktop
   released-leads time button is acts =
       let ends = buttons-end told path last.desktop settles.0 in
       let so : ReleasedThen time button d (ending_through path last.desktop) = (told, acts, ends.0, ends.1, ends.2) in
       (refl, subst (λ (b : Bool). ReleasesThen b time button d (ending_through path last.desktop)) (sym is) so)
 
 pub motions-by-rounds : MotionsByRounds
-motions-by-rounds left time x y d gone told rounds mid last goes went all =
+motions-by-rounds time x y d gone told rounds mid last goes went all =
     let there = placed (point_in d.output x y) gone in
-    let ends = (motions-end time there told (rounds ++ last.desktop ∷ []) last.desktop went (settles left d told rounds mid last all).0).1 in
-    by-rounds left d told rounds mid last all (Single (Motion time x y) gave.Motion) (refl, (gone, goes, told, went, ends))
+    let ends = (motions-end time there told (rounds ++ last.desktop ∷ []) last.desktop went (settles d told rounds mid last all).0).1 in
+    by-rounds d told rounds mid last all (Single (Motion time x y) gave.Motion) (refl, (gone, goes, told, went, ends))
 
 pub buttons-by-rounds : ButtonsByRounds
 buttons-by-rounds = (
-  λ left time button d told rounds mid last is acts all.
-      by-rounds left d told rounds mid last all (Single (Button time button true) gave.Button) (pressed-leads left d told rounds mid last all time button is acts),
-  λ left time button d told rounds mid last is acts all.
-      by-rounds left d told rounds mid last all (Single (Button time button false) gave.Button) (released-leads left d told rounds mid last all time button is acts),
+  λ time button d told rounds mid last is acts all.
+      by-rounds d told rounds mid last all (Single (Button time button true) gave.Button) (pressed-leads d told rounds mid last all time button is acts),
+  λ time button d told rounds mid last is acts all.
+      by-rounds d told rounds mid last all (Single (Button time button false) gave.Button) (released-leads d told rounds mid last all time button is acts),
 )
 
 -- ---- a button that does nothing
@@ -91,12 +90,12 @@ marks-none d apart x y = (
 )
 
 pub buttons-may-be-idle : ButtonsMayBeIdle
-buttons-may-be-idle left time button true d is = (
+buttons-may-be-idle time button true d is = (
   (refl, subst (λ (b : Bool). PressesThen b time button d (ending_through (d ∷ []) d)) (sym is) (ends-at-once d)),
   ap (λ (b : Bool). raised_if b d) is,
   marks-none d,
 )
-buttons-may-be-idle left time button false d is = (
+buttons-may-be-idle time button false d is = (
   (refl, subst (λ (b : Bool). ReleasesThen b time button d (ending_through (d ∷ []) d)) (sym is) (ends-at-once d)),
   refl,
   marks-none d,

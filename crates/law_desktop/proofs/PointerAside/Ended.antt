@@ -12,7 +12,6 @@ use Rattle.spec_desktop.specs.Act.{Act, Connect, Feed, Store, Leave, Tick, Send,
 use Rattle.spec_desktop.specs.Desktop.{Desktop, Resident, client_at, place, resident_of, status_in, status_of}
 use Rattle.spec_desktop.specs.Happenings.{Happening, Leads, Message, Receive, ReceivesAt, Single, Starve, StarvesAt}
 use Rattle.spec_desktop.specs.Happens.{ChangesThen}
-use Rattle.spec_desktop.specs.LeftOut.{LeftOut}
 use Rattle.spec_desktop.specs.Settling.{Midstep, Strike, becomes, ended_at, ended_by, unstruck}
 use Rattle.spec_desktop.specs.Step.{with_peer}
 use Rattle.spec_desktop.specs.Through.{ending_through}
@@ -100,17 +99,10 @@ rounds-stay (suc n) old new path c why struck rounds is =
 
 -- the number that is given back
 abbrev closed : Act → Option ℕ
-closed Connect = None
-closed (Feed c piece) = None
-closed (Store c store at bytes) = None
-closed (Leave c) = None
-closed (Tick time) = None
-closed (Send c n) = None
 closed (Close c) = Some c
-closed (Motion time x y) = None
-closed (Button time button pressed) = None
+closed act = None
 
-module _ (left : LeftOut) (d : Desktop) (path : List Desktop) (e : Desktop) (c : ℕ) (why : Cause) (short : length d.clients ≤ 32) (is : status_in c d ≡ Some why) where
+module _ (d : Desktop) (path : List Desktop) (e : Desktop) (c : ℕ) (why : Cause) (short : length d.clients ≤ 32) (is : status_in c d ≡ Some why) where
   received : (a : ℕ) (piece : List ℕ) (o : Option Resident) → client_at a d ≡ o → ReceivesAt a piece o d path e → status_in c e ≡ Some why
   received a piece None there h = absurd h
   received a piece (Some r) there h =
@@ -125,10 +117,10 @@ module _ (left : LeftOut) (d : Desktop) (path : List Desktop) (e : Desktop) (c :
       let settles = (settled-leads a d lives (few-of d short) r over).follows e (settling-without path e (unstruck (becomes a r over d)) h.1) in
       (follows-on (becomes-after a d lives r over) settles).keeps c why is
 
-  single : (act : Act) (done : Done) → act ≢ Close c → Leads left (Single act done) d path e → status_in c e ≡ Some why
-  single act done apart h = ends_stay left act done d e c why short ((happens_leads_through left act done d e).0 path h) apart is
+  single : (act : Act) (done : Done) → act ≢ Close c → Leads (Single act done) d path e → status_in c e ≡ Some why
+  single act done apart h = ends_stay act done d e c why short ((happens_leads_through act done d e).0 path h) apart is
 
-  other-act : (act : Act) (done : Done) → closed act ≡ None → Leads left (Single act done) d path e → status_in c e ≡ Some why
+  other-act : (act : Act) (done : Done) → closed act ≡ None → Leads (Single act done) d path e → status_in c e ≡ Some why
   other-act act done none h = single act done (λ same. none-some c (sym none ∙ ap closed same)) h
 
   -- to give back its own number is granted
@@ -137,18 +129,18 @@ module _ (left : LeftOut) (d : Desktop) (path : List Desktop) (e : Desktop) (c :
   granted done (Some r) status (None, h, last) = h.1 ∙ ap (λ (s : Option Cause). gave.Close (is_some s)) status
   granted done (Some r) status (Some q, h, last) = h.1 ∙ ap (λ (s : Option Cause). gave.Close (is_some s)) status
 
-  closes : (a : ℕ) (done : Done) → Single (Close a) done ≢ Single (Close c) (gave.Close true) → Leads left (Single (Close a) done) d path e → status_in c e ≡ Some why
+  closes : (a : ℕ) (done : Done) → Single (Close a) done ≢ Single (Close c) (gave.Close true) → Leads (Single (Close a) done) d path e → status_in c e ≡ Some why
   closes a done apart h = at (same-or a c)
     where
       at : (a ≡ c) ⊎ (a ≢ c) → status_in c e ≡ Some why
       at (inr away) = single (Close a) done (λ same. away (same_Some a c (ap closed same))) h
       at (inl here) =
-          let own : Leads left (Single (Close c) done) d path e = subst (λ (n : ℕ). Leads left (Single (Close n) done) d path e) here h in
+          let own : Leads (Single (Close c) done) d path e = subst (λ (n : ℕ). Leads (Single (Close n) done) d path e) here h in
           absurd (apart (ap₂ (λ (n : ℕ) (x : Done). Single (Close n) x) here (granted done (client_at c d) is own)))
 
-  happened : (h : Happening) → Leads left h d path e → h ≢ Single (Close c) (gave.Close true) → status_in c e ≡ Some why
+  happened : (h : Happening) → Leads h d path e → h ≢ Single (Close c) (gave.Close true) → status_in c e ≡ Some why
   happened (Receive a piece) leads apart = received a piece (client_at a d) refl leads
-  happened (Message a) leads apart = ((serves-leads left a d (few-of d short)).follows e ((messages_lead_through left a d e).0 path leads)).keeps c why is
+  happened (Message a) leads apart = ((serves-leads a d (few-of d short)).follows e ((messages_lead_through a d e).0 path leads)).keeps c why is
   happened (Starve a) leads apart = starved a (client_at a d) refl leads
   happened (Single Connect done) leads apart = other-act Connect done refl leads
   happened (Single (Feed a piece) done) leads apart = absurd leads
@@ -162,6 +154,6 @@ module _ (left : LeftOut) (d : Desktop) (path : List Desktop) (e : Desktop) (c :
 
 pub ended-stay : EndedStay
 ended-stay = (
-  λ left h d path e c why short leads apart is. happened left d path e c why short is h leads apart,
+  λ h d path e c why short leads apart is. happened d path e c why short is h leads apart,
   λ n old new path c why struck rounds is. rounds-stay n old new path c why (of-end old.struck old.desktop struck) rounds is,
 )

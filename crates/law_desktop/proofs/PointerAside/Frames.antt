@@ -172,7 +172,7 @@ told-nowhere time (suc n) c old new h still = told-nowhere time n (suc c) h.0 ne
     at (Some r) h = unless (is_some r.peer.status || is_struck c old.struck) r h
 
 pub frames-apart : FramesApart
-frames-apart left time done d path e h =
+frames-apart time done d path e h =
     let aside : Midstep = h.1.0 in
     let told : TellsFrames time 32 1 (unstruck (unpointed d)) aside = h.1.1 in
     let back : Midstep = with_pointer d.pointer aside in

@@ -24,7 +24,6 @@ use Rattle.spec_desktop.specs.Desktop.{Desktop, Resident, arrival, become_by, cl
 use Rattle.spec_desktop.specs.Happenings.{Happening, Leads, Message, Receive, ReceivesAt, Single, Starve, StarvesAt}
 use Rattle.spec_desktop.specs.Happens.{AnswersThen, BecomesThen, ChangesThen, ConnectsThen, DoesThen, LeavesThen, PressesThen, ReleasesThen, ServesThen, TakesThen, WantsOrThen}
 use Rattle.spec_desktop.specs.Happens.{changed_so, placed, point_in, wants_memory, with_press, with_release}
-use Rattle.spec_desktop.specs.LeftOut.{LeftOut}
 use Rattle.spec_desktop.specs.Settling.{Midstep, PointerActs, Settles, after_status, becomes, unstruck}
 use Rattle.spec_desktop.specs.Step.{with_peer}
 use Rattle.spec_desktop.specs.Through.{ending_through, settling_through}
@@ -42,9 +41,9 @@ use Rattle.law_desktop.proofs.PointerAside.Noted.{put-had, put-noted, same-had, 
 -- ---- a message
 
 -- another client is as it was, and of the message's own is noted what its demand makes of it
-abbrev IsHeard : {X : Type 0} → (Resident → X) → (Demand → X → X) → LeftOut → ℕ → Desktop → Resident → ℕ → X → Type 0
-IsHeard of after left c d there a x =
-    ((c ≢ a) × (noted_in of a d ≡ noted None x)) ⊎ ((c ≡ a) × (demand : Demand) × (asked left c d ≡ Some demand) × (x ≡ after demand (of there)))
+abbrev IsHeard : {X : Type 0} → (Resident → X) → (Demand → X → X) → ℕ → Desktop → Resident → ℕ → X → Type 0
+IsHeard of after c d there a x =
+    ((c ≢ a) × (noted_in of a d ≡ noted None x)) ⊎ ((c ≡ a) × (demand : Demand) × (asked c d ≡ Some demand) × (x ≡ after demand (of there)))
 
 other-noted : {X : Type 0} (of : Resident → X) (s : Option Cause) (c a : ℕ) (r : Resident) (q : Peer) (d : Desktop) → c ≢ a
     → noted_in of a (after_status s c (become_by s c r q d)) ≡ noted_in of a d
@@ -56,10 +55,10 @@ abbrev pub Changes : {X : Type 0} → (Resident → X) → (Demand → X → X) 
 Changes of after = (c : ℕ) (demand : Demand) (d : Desktop) (r : Resident) → of (changed_for c demand r d) ≡ after demand (of r)
 
 module _ {X : Type 0} (of : Resident → X) (heeds : HeedsNothing of) (after : Demand → X → X) (changes : Changes of after)
-    (left : LeftOut) (c : ℕ) (d : Desktop) (path : List Desktop) (new : Desktop) (there : Resident)
+    (c : ℕ) (d : Desktop) (path : List Desktop) (new : Desktop) (there : Resident)
     (is : client_at c d ≡ Some there) (a : ℕ) (x : X) (sits : noted_in of a new ≡ noted None x) where
   abbrev Heard : Type 0
-  Heard = IsHeard of after left c d there a x
+  Heard = IsHeard of after c d there a x
 
   -- its client ended
   became : (Q : Peer → Type 0) → ((q : Peer) → Q q → q.status ≡ None → ⊥) → (r : Resident) → BecomesThen Q c r d (settling_through path new) → Heard
@@ -75,7 +74,7 @@ module _ {X : Type 0} (of : Resident → X) (heeds : HeedsNothing of) (after : D
           absurd (never h.0 h.1 (sym status ∙ status-noted of (client_at c (becomes c r h.0 d)) ∙ ap status_noted own))
       at (inr away) = inl (away, sym (other-noted of h.0.status c a r h.0 d away) ∙ sat)
 
-  did : (demand : Demand) (r : Resident) → asked left c d ≡ Some demand → of r ≡ of there → DoesThen left c demand r d (settling_through path new) → Heard
+  did : (demand : Demand) (r : Resident) → asked c d ≡ Some demand → of r ≡ of there → DoesThen c demand r d (settling_through path new) → Heard
   did demand r asks same h = at (same-or c a)
     where
       sat : noted_of of (client_in (with_number c (Some (with_peer h.0 (changed_for c demand r d))) d.clients) a) ≡ noted None x
@@ -97,21 +96,21 @@ module _ {X : Type 0} (of : Resident → X) (heeds : HeedsNothing of) (after : D
           )
       at (inr away) = inl (away, sym (ap (noted_of of) (number-other d.clients c a (Some (with_peer h.0 (changed_for c demand r d))) away)) ∙ sat)
 
-  wanted : (b : Bool) (demand : Demand) (r : Resident) → asked left c d ≡ Some demand → of r ≡ of there
-      → WantsOrThen b (DoesThen left c demand r d (settling_through path new)) c r d (settling_through path new) → Heard
+  wanted : (b : Bool) (demand : Demand) (r : Resident) → asked c d ≡ Some demand → of r ≡ of there
+      → WantsOrThen b (DoesThen c demand r d (settling_through path new)) c r d (settling_through path new) → Heard
   wanted false demand r asks same h = did demand r asks same h
   wanted true demand r asks same (inl h) = became (LacksMemory r.peer) (lacking r.peer) r h
   wanted true demand r asks same (inr h) = did demand r asks same h
 
-  answered : (judged : Result Demand Refusal) (r : Resident) → asked left c d ≡ asked_of judged → of r ≡ of there
-      → AnswersThen left judged c r d (settling_through path new) → Heard
+  answered : (judged : Result Demand Refusal) (r : Resident) → asked c d ≡ asked_of judged → of r ≡ of there
+      → AnswersThen judged c r d (settling_through path new) → Heard
   answered (Ok demand) r asks same h = wanted (wants_memory demand) demand (with_peer (counted r.peer) r) asks (heeds.peer (counted r.peer) r ∙ same) h
   answered (Err refusal) r asks same h = became (Errs refusal r.peer) (erred refusal r.peer) r h
 
-  took : (split : Split) (r : Resident) → asked left c d ≡ asked_first left split r → of r ≡ of there → TakesThen left split c r d (settling_through path new) → Heard
+  took : (split : Split) (r : Resident) → asked c d ≡ asked_first split r → of r ≡ of there → TakesThen split c r d (settling_through path new) → Heard
   took (Whole object opcode size) r asks same h =
       let rest : Peer = with_rest (drop size r.peer.rest) r.peer in
-      answered (judge_all left r object opcode (take (size - 8) (drop 8 r.peer.rest))) (with_peer rest r) asks (heeds.peer rest r ∙ same) h
+      answered (judge_all r object opcode (take (size - 8) (drop 8 r.peer.rest))) (with_peer rest r) asks (heeds.peer rest r ∙ same) h
   took Bad r asks same h = became (Errs (display_error InvalidMethod) r.peer) (erred (display_error InvalidMethod) r.peer) r h
   took More r asks same h = absurd h
 
@@ -185,19 +184,17 @@ module _ {X : Type 0} (of : Resident → X) (heeds : HeedsNothing of) (d : Deskt
 
 -- the client whose message is taken
 abbrev taken_of : Happening → Option ℕ
-taken_of (Receive c piece) = None
 taken_of (Message c) = Some c
-taken_of (Starve c) = None
-taken_of (Single act done) = None
+taken_of happening = None
 
-module _ {X : Type 0} (of : Resident → X) (after : Demand → X → X) (left : LeftOut) (h : Happening) (d : Desktop) (a : ℕ) (x : X) where
+module _ {X : Type 0} (of : Resident → X) (after : Demand → X → X) (h : Happening) (d : Desktop) (a : ℕ) (x : X) where
   -- the same was noted of a client, and it is no message of its own
   abbrev pub WasNoted : Type 0
   WasNoted = (noted_in of a d ≡ noted None x) × (h ≢ Message a)
 
   -- or it asked for something, which makes this of what was noted
   abbrev pub Asked : Type 0
-  Asked = (h ≡ Message a) × (r : Resident) × (demand : Demand) × (client_at a d ≡ Some r) × (r.peer.status ≡ None) × (asked left a d ≡ Some demand) × (x ≡ after demand (of r))
+  Asked = (h ≡ Message a) × (r : Resident) × (demand : Demand) × (client_at a d ≡ Some r) × (r.peer.status ≡ None) × (asked a d ≡ Some demand) × (x ≡ after demand (of r))
 
   -- or it came
   abbrev pub Came : Type 0
@@ -211,26 +208,26 @@ abbrev pub HeedsNoButtonOf : {X : Type 0} → (Resident → X) → Happening →
 HeedsNoButtonOf of h = (time button : ℕ) (pressed : Bool) (done : Done) → h ≡ Single (Button time button pressed) done → HeedsNoButton of
 
 module _ {X : Type 0} (of : Resident → X) (heeds : HeedsNothing of) (after : Demand → X → X) (changes : Changes of after)
-    (left : LeftOut) (d : Desktop) (path : List Desktop) (e : Desktop) (a : ℕ) (q : Resident) (is : client_at a e ≡ Some q) (alive : q.peer.status ≡ None) where
+    (d : Desktop) (path : List Desktop) (e : Desktop) (a : ℕ) (q : Resident) (is : client_at a e ≡ Some q) (alive : q.peer.status ≡ None) where
   sits : noted_in of a e ≡ noted None (of q)
   sits = ap (noted_of of) is ∙ noted-same q.peer.status None (of q) (of q) alive refl
 
   abbrev After : Happening → Type 0
-  After h = IsNotedAfter of after left h d a (of q)
+  After h = IsNotedAfter of after h d a (of q)
 
   -- nobody's message is taken
   quiet : (h : Happening) → taken_of h ≡ None → Had of d e → After h
   quiet h none had = inl (had a (of q) sits, λ same. none-some a (sym none ∙ ap taken_of same))
 
-  served : (c : ℕ) (o : Option Resident) → client_at c d ≡ o → ServesThen left c o d (settling_through path e) → After (Message c)
+  served : (c : ℕ) (o : Option Resident) → client_at c d ≡ o → ServesThen c o d (settling_through path e) → After (Message c)
   served c None there h = absurd h
   served c (Some r) there h =
-      heard (took of heeds after changes left c d path e r there a (of q) sits (split_of r.peer.rest) r (ap (asked_by left) there) refl h.1)
+      heard (took of heeds after changes c d path e r there a (of q) sits (split_of r.peer.rest) r (ap asked_by there) refl h.1)
     where
-      heard : IsHeard of after left c d r a (of q) → After (Message c)
+      heard : IsHeard of after c d r a (of q) → After (Message c)
       heard (inl k) = inl (k.1, λ same. k.0 (same_Some c a (ap taken_of same)))
       heard (inr k) =
-          inr (inl (ap Message k.0, r, k.1, subst (λ (n : ℕ). client_at n d ≡ Some r) k.0 there, h.0, subst (λ (n : ℕ). asked left n d ≡ Some k.1) k.0 k.2, k.3))
+          inr (inl (ap Message k.0, r, k.1, subst (λ (n : ℕ). client_at n d ≡ Some r) k.0 there, h.0, subst (λ (n : ℕ). asked n d ≡ Some k.1) k.0 k.2, k.3))
 
   connected : (k : Option ℕ) (done : Done) → lowest d.clients ≡ k → ConnectsThen k d done (ending_through path e) → After (Single Connect done)
   connected None done free h = quiet (Single Connect done) refl (ending-had of heeds path e (unstruck d) h.1)
@@ -251,7 +248,7 @@ module _ {X : Type 0} (of : Resident → X) (heeds : HeedsNothing of) (after : D
       at (inr away) =
           inl (sym (ap (noted_of of) (number-other d.clients (n + 1) a (Some new) away)) ∙ sat, λ same. none-some a (ap taken_of same))
 
-  pub happened : (h : Happening) → HeedsNoButtonOf of h → Leads left h d path e → After h
+  pub happened : (h : Happening) → HeedsNoButtonOf of h → Leads h d path e → After h
   happened (Receive c piece) none leads = quiet (Receive c piece) refl (received of heeds d path e c piece (client_at c d) refl leads)
   happened (Message c) none leads = served c (client_at c d) refl leads
   happened (Starve c) none leads = quiet (Starve c) refl (starved of heeds d path e c (client_at c d) refl leads)

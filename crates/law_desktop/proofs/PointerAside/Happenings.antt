@@ -6,9 +6,9 @@ use Rattle.spec_desktop.specs.declared.cause.Cause.TheVariants as cause
 use Rattle.spec_desktop.specs.Peer.{Peer, ended}
 use Rattle.spec_desktop.specs.declared.answers.Done.{Done}
 use Rattle.spec_desktop.specs.declared.answers.Done.TheVariants as gave
-use Rattle.spec_desktop.specs.Act.{Connect, Feed, Store, Leave, Tick, Send, Close, Motion, Button, IsClosed, IsSent, IsStored, lowest}
+use Rattle.spec_desktop.specs.Act.{Connect, Feed, Store, Leave, Send, Close, IsClosed, IsSent, IsStored, lowest}
 use Rattle.spec_desktop.specs.Desktop.{Desktop, Resident, arrival, client_at, unpointed, with_client}
-use Rattle.spec_desktop.specs.Happenings.{Happening, Leads, Message, Receive, ReceivesAt, Single, Starve, StarvesAt}
+use Rattle.spec_desktop.specs.Happenings.{Happening, Leads, Receive, ReceivesAt, Single, StarvesAt}
 use Rattle.spec_desktop.specs.Happens.{ChangesThen, ConnectsThen, LeavesThen}
 use Rattle.spec_desktop.specs.Settling.{Midstep, becomes, pointer_without, unstruck}
 use Rattle.spec_desktop.specs.Step.{with_peer}
@@ -66,20 +66,14 @@ module _ (d : Desktop) (path : List Desktop) (e : Desktop) where
   received c piece (Some r) h = (h.0, ap (pointed d.pointer) h.1, refl)
 
 pub quiet-apart : QuietApart
-quiet-apart left (Receive c piece) d path e quiet h = received d path e c piece (client_at c d) h
-quiet-apart left (Message c) d path e quiet h = absurd (true≢false (sym quiet))
-quiet-apart left (Starve c) d path e quiet h = absurd (true≢false (sym quiet))
-quiet-apart left (Single Connect done) d path e quiet h = connected d path e (lowest d.clients) done h
-quiet-apart left (Single (Feed c piece) done) d path e quiet h = absurd h
-quiet-apart left (Single (Store c store at bytes) done) d path e quiet h = changed d path e (IsStored store at bytes) _ c (client_at c d) done h
-quiet-apart left (Single (Leave c) (gave.Gone true)) d path e quiet h = absurd (true≢false (sym quiet))
-quiet-apart left (Single (Leave c) (gave.Gone false)) d path e quiet h = gone d path e c (client_at c d) h
-quiet-apart left (Single (Leave c) done) d path e quiet h = absurd (true≢false (sym quiet))
-quiet-apart left (Single (Tick time) done) d path e quiet h = absurd (true≢false (sym quiet))
-quiet-apart left (Single (Send c n) done) d path e quiet h = changed d path e (IsSent n) _ c (client_at c d) done h
-quiet-apart left (Single (Close c) done) d path e quiet h = changed d path e IsClosed _ c (client_at c d) done h
-quiet-apart left (Single (Motion time x y) done) d path e quiet h = absurd (true≢false (sym quiet))
-quiet-apart left (Single (Button time button pressed) done) d path e quiet h = absurd (true≢false (sym quiet))
+quiet-apart (Receive c piece) d path e quiet h = received d path e c piece (client_at c d) h
+quiet-apart (Single Connect done) d path e quiet h = connected d path e (lowest d.clients) done h
+quiet-apart (Single (Feed c piece) done) d path e quiet h = absurd h
+quiet-apart (Single (Store c store at bytes) done) d path e quiet h = changed d path e (IsStored store at bytes) _ c (client_at c d) done h
+quiet-apart (Single (Leave c) (gave.Gone false)) d path e quiet h = gone d path e c (client_at c d) h
+quiet-apart (Single (Send c n) done) d path e quiet h = changed d path e (IsSent n) _ c (client_at c d) done h
+quiet-apart (Single (Close c) done) d path e quiet h = changed d path e IsClosed _ c (client_at c d) done h
+quiet-apart happening d path e quiet h = absurd (true≢false (sym quiet))
 
 -- ---- a client ends
 
@@ -120,7 +114,7 @@ ended-apart c why r d e = (
 )
 
 pub ends-apart : EndsApart
-ends-apart left c h d path e (inl is) leads =
-    subst (λ (x : Happening). Leads left x (unpointed d) path e → SettlesOn (pointed (pointer_without c d.pointer)) (Leads left x d) path e) (sym is) (starved c d path e (client_at c d)) leads
-ends-apart left c h d path e (inr is) leads =
-    subst (λ (x : Happening). Leads left x (unpointed d) path e → SettlesOn (pointed (pointer_without c d.pointer)) (Leads left x d) path e) (sym is) (leaves c d path e (client_at c d)) leads
+ends-apart c h d path e (inl is) leads =
+    subst (λ (x : Happening). Leads x (unpointed d) path e → SettlesOn (pointed (pointer_without c d.pointer)) (Leads x d) path e) (sym is) (starved c d path e (client_at c d)) leads
+ends-apart c h d path e (inr is) leads =
+    subst (λ (x : Happening). Leads x (unpointed d) path e → SettlesOn (pointed (pointer_without c d.pointer)) (Leads x d) path e) (sym is) (leaves c d path e (client_at c d)) leads

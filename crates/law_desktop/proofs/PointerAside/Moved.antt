@@ -25,7 +25,6 @@ use Rattle.spec_desktop.specs.Desktop.{Desktop, Resident, arrival, become_by, cl
 use Rattle.spec_desktop.specs.Happenings.{Happening, Leads, Message, Receive, ReceivesAt, Single, Starve, StarvesAt}
 use Rattle.spec_desktop.specs.Happens.{AnswersThen, BecomesThen, ChangesThen, ConnectsThen, DoesThen, LeavesThen, PressesThen, ReleasesThen, ServesThen, TakesThen, TellsFrames, WantsOrThen}
 use Rattle.spec_desktop.specs.Happens.{callbacks_due, changed_so, frames_told, placed, point_in, released_to, wants_memory, with_press, with_release}
-use Rattle.spec_desktop.specs.LeftOut.{LeftOut}
 use Rattle.spec_desktop.specs.Settling.{Applies, AppliesAll, Midstep, PointerActs, Settles, Strike, Tells, TellsAt, TellsUnless, after_status, becomes, ended_all, ended_at, ended_by, is_struck, unless_of}
 use Rattle.spec_desktop.specs.Settling.{unstruck}
 use Rattle.spec_desktop.specs.Stacked.{all_windows}
@@ -211,30 +210,30 @@ kept-again (Some t) ss = at (list_any (is_of t.client t.surface) ss) refl
     at true e = ap (λ (b : Bool). if b then Some t else None) e
     at false e = refl
 
-module _ (left : LeftOut) (c : ℕ) (d : Desktop) (path : List Desktop) (new : Desktop) (stands : MovedStands d) where
+module _ (c : ℕ) (d : Desktop) (path : List Desktop) (new : Desktop) (stands : MovedStands d) where
   became : (Q : Peer → Type 0) (r : Resident) → BecomesThen Q c r d (settling_through path new) → MovedStands new
   became Q r h = settling-stands path new (unstruck (becomes c r h.0 d)) (becomes-stands c r h.0 d stands) h.2
 
-  did : (demand : Demand) (r : Resident) → DoesThen left c demand r d (settling_through path new) → MovedStands new
+  did : (demand : Demand) (r : Resident) → DoesThen c demand r d (settling_through path new) → MovedStands new
   did demand r h =
       let on : Desktop = stacked_for c demand r (all_windows d) d in
       settling-stands path new (changed_so c demand r d h.0 h.1) (kept-again on.pointer.move on.standing) h.3
 
-  wanted : (b : Bool) (demand : Demand) (r : Resident) → WantsOrThen b (DoesThen left c demand r d (settling_through path new)) c r d (settling_through path new) → MovedStands new
+  wanted : (b : Bool) (demand : Demand) (r : Resident) → WantsOrThen b (DoesThen c demand r d (settling_through path new)) c r d (settling_through path new) → MovedStands new
   wanted false demand r h = did demand r h
   wanted true demand r (inl h) = became (LacksMemory r.peer) r h
   wanted true demand r (inr h) = did demand r h
 
-  answered : (judged : Result Demand Refusal) (r : Resident) → AnswersThen left judged c r d (settling_through path new) → MovedStands new
+  answered : (judged : Result Demand Refusal) (r : Resident) → AnswersThen judged c r d (settling_through path new) → MovedStands new
   answered (Ok demand) r h = wanted (wants_memory demand) demand (with_peer (counted r.peer) r) h
   answered (Err refusal) r h = became (Errs refusal r.peer) r h
 
-  took : (split : Split) (r : Resident) → TakesThen left split c r d (settling_through path new) → MovedStands new
-  took (Whole object opcode size) r h = answered (judge_all left r object opcode (take (size - 8) (drop 8 r.peer.rest))) (with_peer (with_rest (drop size r.peer.rest) r.peer) r) h
+  took : (split : Split) (r : Resident) → TakesThen split c r d (settling_through path new) → MovedStands new
+  took (Whole object opcode size) r h = answered (judge_all r object opcode (take (size - 8) (drop 8 r.peer.rest))) (with_peer (with_rest (drop size r.peer.rest) r.peer) r) h
   took Bad r h = became (Errs (display_error InvalidMethod) r.peer) r h
   took More r h = absurd h
 
-  served : (o : Option Resident) → ServesThen left c o d (settling_through path new) → MovedStands new
+  served : (o : Option Resident) → ServesThen c o d (settling_through path new) → MovedStands new
   served None h = absurd h
   served (Some r) h = took (split_of r.peer.rest) r h.1
 
@@ -277,32 +276,32 @@ module _ (d : Desktop) (path : List Desktop) (new : Desktop) (stands : MovedStan
   released false time button h = ending-stands path new (unstruck d) stands h
   released true time button h = acted (Release time button) (with_release button d) (released-stands button d stands) h
 
-  happened : (left : LeftOut) (h : Happening) → Leads left h d path new → MovedStands new
-  happened left (Receive c piece) h = at (client_at c d) h
+  happened : (h : Happening) → Leads h d path new → MovedStands new
+  happened (Receive c piece) h = at (client_at c d) h
     where
       at : (o : Option Resident) → ReceivesAt c piece o d path new → MovedStands new
       at None h = absurd h
       at (Some r) h = subst MovedStands (sym h.1) stands
-  happened left (Message c) h = served left c d path new stands (client_at c d) h
-  happened left (Starve c) h = at (client_at c d) h
+  happened (Message c) h = served c d path new stands (client_at c d) h
+  happened (Starve c) h = at (client_at c d) h
     where
       at : (o : Option Resident) → StarvesAt c o d path new → MovedStands new
       at None h = absurd h
       at (Some r) h = settling-stands path new (unstruck (becomes c r (ended cause.Memory r.peer) d)) (becomes-stands c r (ended cause.Memory r.peer) d stands) h.1
-  happened left (Single Connect done) h = connected (lowest d.clients) done h
-  happened left (Single (Feed c piece) done) h = absurd h
-  happened left (Single (Store c store at bytes) done) h = changed (IsStored store at bytes) _ c (client_at c d) done h
-  happened left (Single (Leave c) done) h = gone c (client_at c d) done h
-  happened left (Single (Tick time) done) h =
+  happened (Single Connect done) h = connected (lowest d.clients) done h
+  happened (Single (Feed c piece) done) h = absurd h
+  happened (Single (Store c store at bytes) done) h = changed (IsStored store at bytes) _ c (client_at c d) done h
+  happened (Single (Leave c) done) h = gone c (client_at c d) done h
+  happened (Single (Tick time) done) h =
       settling-stands path new h.1.0 (stands-on d h.1.0.desktop (frames-keep time 32 1 (unstruck d) h.1.0 h.1.1) stands) h.1.2
-  happened left (Single (Send c n) done) h = changed (IsSent n) _ c (client_at c d) done h
-  happened left (Single (Close c) done) h = changed IsClosed _ c (client_at c d) done h
-  happened left (Single (Motion time x y) done) h =
+  happened (Single (Send c n) done) h = changed (IsSent n) _ c (client_at c d) done h
+  happened (Single (Close c) done) h = changed IsClosed _ c (client_at c d) done h
+  happened (Single (Motion time x y) done) h =
       let at : Place = point_in d.output x y in
       let moved : MovedStands h.1.0.desktop = stands-on d h.1.0.desktop (acts-keep (GoTo at) (unstruck d) h.1.0 h.1.1) stands in
       ending-stands path new h.1.2 (stands-on (placed at h.1.0).desktop h.1.2.desktop (acts-keep (Went time) (placed at h.1.0) h.1.2 h.1.3) moved) h.1.4
-  happened left (Single (Button time button true) done) h = pressed (is_press button d.pointer.buttons) time button h.1
-  happened left (Single (Button time button false) done) h = released (is_down button d.pointer.buttons) time button h.1
+  happened (Single (Button time button true) done) h = pressed (is_press button d.pointer.buttons) time button h.1
+  happened (Single (Button time button false) done) h = released (is_down button d.pointer.buttons) time button h.1
 
 pub moved-stands-on : MovedStandsOn
-moved-stands-on = (λ output. refl, λ left h d path new stands leads. happened d path new stands left h leads)
+moved-stands-on = (λ output. refl, λ h d path new stands leads. happened d path new stands h leads)

@@ -135,22 +135,12 @@ module _ {X : Type 0} (of : Resident → X) where
   -- ---- what the pointer does
 
   abbrev Keeps : PointerAction → Type 0
-  Keeps (Leave t) = Unit {0}
-  Keeps (Enter t) = Unit {0}
-  Keeps (Motion time t) = Unit {0}
   Keeps (Button time button pressed t) = HeedsNoButton of
-  Keeps (Raise t) = Unit {0}
-  Keeps (MoveWindow t x y) = Unit {0}
-  Keeps (Dismiss c) = Unit {0}
+  Keeps action = Unit {0}
 
   one-keeps : HeedsNoButton of → (action : PointerAction) → Keeps action
-  one-keeps heeds (Leave t) = tt
-  one-keeps heeds (Enter t) = tt
-  one-keeps heeds (Motion time t) = tt
   one-keeps heeds (Button time button pressed t) = heeds
-  one-keeps heeds (Raise t) = tt
-  one-keeps heeds (MoveWindow t x y) = tt
-  one-keeps heeds (Dismiss c) = tt
+  one-keeps heeds action = tt
 
   each-keeps : HeedsNoButton of → (acts : List PointerAction) → Each Keeps acts
   each-keeps heeds [] = tt
@@ -158,11 +148,9 @@ module _ {X : Type 0} (of : Resident → X) where
 
   -- only for a press and a release it is asked that no button is heeded
   abbrev pub IsKeptBy : PointerInput → Type 0
-  IsKeptBy Settle = Unit {0}
-  IsKeptBy (GoTo to) = Unit {0}
-  IsKeptBy (Went time) = Unit {0}
   IsKeptBy (Press time button holder) = HeedsNoButton of
   IsKeptBy (Release time button) = HeedsNoButton of
+  IsKeptBy input = Unit {0}
 
   module _ (ws : List Window) (p : Pointer) where
     turns-keep : (s t : Option Target) → Each Keeps (leave_of s ++ enter_of t)

@@ -5,15 +5,14 @@ use Rattle.wl_proto.specs.declared.interface.Interface.TheVariants.{WlPointer}
 use Rattle.wl_shell.specs.Positioner.{Positioner}
 use Rattle.wl_shell.specs.Shell.{Effect, Stays, Unconfigured, Configures, Maps, Unmaps, XdgSurface, xdg_at, xdg_of}
 use Rattle.wl_shell.specs.Popups.{Popped, copying, is_configured, popup_at, repositioning}
-use Rattle.spec_desktop.specs.Ask.{Ask, Own, CreateSurface, AskSurface, EndObject, GetXdgSurface, DestroyXdgSurface, GetToplevel, Acknowledge, ConfigureAgain, Ignore}
+use Rattle.spec_desktop.specs.Ask.{Ask, GetToplevel}
 use Rattle.spec_desktop.specs.Changing.{Placing, changed_for, drawing, effect_placing, grab_allowed, grabbed, popup_repositioned}
 use Rattle.spec_desktop.specs.Changing.{has_focus, in_rising_order, mode_set, placement_now, popup_given_to, tree_committed}
-use Rattle.spec_desktop.specs.Demand.{Demand, Asks, EndSurface, AskFrame, CommitTree, GetSubsurface, EndSubsurface, SetMode, GetPointer, MakeCursor, Reposition}
-use Rattle.spec_desktop.specs.Demand.{GetPopup, Grab, EndPopup, EndToplevel, Move}
+use Rattle.spec_desktop.specs.Demand.{Demand, Asks, CommitTree, SetMode, GetPointer, Reposition}
+use Rattle.spec_desktop.specs.Demand.{GetPopup, Grab}
 use Rattle.spec_desktop.specs.Demanding.{effect_of_commit}
 use Rattle.spec_desktop.specs.Desktop.{Desktop, Resident, client_at}
 use Rattle.spec_desktop.specs.Happenings.{Happening, Message}
-use Rattle.spec_desktop.specs.LeftOut.{LeftOut}
 use Rattle.spec_desktop.specs.Pointing.{has_pointers}
 use Rattle.spec_desktop.specs.Settling.{noted as serials_noted}
 use Rattle.spec_desktop.specs.Step.{changed_by, making, toplevel_given, xdg_changed}
@@ -50,16 +49,8 @@ toplevel-seat id xdg None r = refl
 toplevel-seat id xdg (Some x) r = refl
 
 asked-seat : (ask : Ask) (r : Resident) → seat_of (changed_by ask r) ≡ seat_of r
-asked-seat (Own action) r = refl
-asked-seat (CreateSurface id version) r = refl
-asked-seat (AskSurface id request) r = refl
-asked-seat (EndObject id) r = refl
-asked-seat (GetXdgSurface id version base surface) r = refl
-asked-seat (DestroyXdgSurface id) r = refl
 asked-seat (GetToplevel id version xdg) r = toplevel-seat id xdg (xdg_at xdg r.owned.shell) r
-asked-seat (Acknowledge xdg serial) r = refl
-asked-seat (ConfigureAgain xdg) r = refl
-asked-seat Ignore r = refl
+asked-seat ask r = refl
 
 effect-seat : (where_to : Placing) (surface : ℕ) (effect : Effect) (x : Option XdgSurface) (r : Resident) → seat_of (effect_placing where_to surface effect x r) ≡ seat_of r
 effect-seat where_to surface effect None r = refl
@@ -96,20 +87,13 @@ drawn-seat false id version r = refl
 
 pub changed-seat : (c : ℕ) (demand : Demand) (d : Desktop) (r : Resident) → seat_of (changed_for c demand r d) ≡ seat_after demand (seat_of r)
 changed-seat c (Asks ask) d r = asked-seat ask r
-changed-seat c (EndSurface id) d r = refl
-changed-seat c (AskFrame id version surface) d r = refl
 changed-seat c (CommitTree surface) d r = effect-seat (placement_now c r d) surface (effect_of_commit r surface) (xdg_of surface r.owned.shell) (tree_committed surface r)
-changed-seat c (GetSubsurface id version child parent) d r = refl
-changed-seat c (EndSubsurface id) d r = refl
 changed-seat c (SetMode link synchronised) d r = mode-seat link synchronised r
 changed-seat c (GetPointer id version) d r = drawn-seat (has_focus c d.pointer.focus) id version (record r { pointers = in_rising_order id r.pointers })
-changed-seat c (MakeCursor surface) d r = refl
 changed-seat c (GetPopup id version xdg parent p) d r = popup-seat id xdg parent p (xdg_at xdg r.owned.shell) r
 changed-seat c (Reposition xdg token p) d r = reposition-seat (placement_now c r d) p (popup_at xdg r.owned.shell) r
 changed-seat c (Grab xdg serial) d r = grab-seat (grab_allowed c xdg serial r d) xdg r
-changed-seat c (EndPopup id xdg) d r = refl
-changed-seat c (EndToplevel id xdg top) d r = refl
-changed-seat c (Move surface serial) d r = refl
+changed-seat c demand d r = refl
 
 -- ---- the wl_pointers
 
@@ -133,29 +117,29 @@ pointers-heed-no-button false pressed r = refl
 pointers-change : Changes pointers_of pointers_after
 pointers-change c demand d r = ap (λ (s : Seat). s.pointers) (changed-seat c demand d r)
 
-module _ (left : LeftOut) (h : Happening) (d : Desktop) (a : ℕ) (q : Resident) where
+module _ (h : Happening) (d : Desktop) (a : ℕ) (q : Resident) where
   had : (r : Resident) → client_at a d ≡ Some r → r.peer.status ≡ None → q.pointers ≡ r.pointers
-      → ((id version : ℕ) → h ≡ Message a → asked left a d ≡ Some (GetPointer id version) → ⊥) → HasPointersAfter left h d a q
+      → ((id version : ℕ) → h ≡ Message a → asked a d ≡ Some (GetPointer id version) → ⊥) → HasPointersAfter h d a q
   had r is lived same never = inl (r, is, lived, same, never)
 
   -- what a message asked of its own client
-  own : (demand : Demand) (r : Resident) → h ≡ Message a → client_at a d ≡ Some r → r.peer.status ≡ None → asked left a d ≡ Some demand → q.pointers ≡ pointers_after demand r.pointers
-      → HasPointersAfter left h d a q
+  own : (demand : Demand) (r : Resident) → h ≡ Message a → client_at a d ≡ Some r → r.peer.status ≡ None → asked a d ≡ Some demand → q.pointers ≡ pointers_after demand r.pointers
+      → HasPointersAfter h d a q
   own (GetPointer id version) r its is lived asks have = inr (inl (r, id, version, is, lived, its, asks, have))
   own demand r its is lived asks have = other (new_id demand) refl
     where
-      other : (o : Option ℕ) → new_id demand ≡ o → HasPointersAfter left h d a q
+      other : (o : Option ℕ) → new_id demand ≡ o → HasPointersAfter h d a q
       other None none =
           had r is lived (have ∙ ap (λ (o : Option ℕ). with_new o r.pointers) none)
           (λ id version same gets. none-some id (sym none ∙ ap new_id (same_Some demand (GetPointer id version) (sym asks ∙ gets))))
       other (Some id) some = absurd (none-some id some)
 
-  has-pointers : IsNotedAfter pointers_of pointers_after left h d a q.pointers → HasPointersAfter left h d a q
+  has-pointers : IsNotedAfter pointers_of pointers_after h d a q.pointers → HasPointersAfter h d a q
   has-pointers (inl k) =
       let it = noted-client pointers_of (client_at a d) q.pointers k.0 in had it.0 it.1 it.2 it.3 (λ id version same asks. k.1 same)
   has-pointers (inr (inl k)) = own k.2 k.1 k.0 k.3 k.4 k.5 k.6
   has-pointers (inr (inr k)) = inr (inr k)
 
 pub pointers-stay : PointersStay
-pointers-stay left h d path e c q leads is alive =
-    has-pointers left h d c q (happened pointers_of pointers-heed pointers_after pointers-change left d path e c q is alive h (λ time button pressed done same. pointers-heed-no-button) leads)
+pointers-stay h d path e c q leads is alive =
+    has-pointers h d c q (happened pointers_of pointers-heed pointers_after pointers-change d path e c q is alive h (λ time button pressed done same. pointers-heed-no-button) leads)

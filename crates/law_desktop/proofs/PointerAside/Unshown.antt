@@ -17,7 +17,6 @@ use Rattle.spec_desktop.specs.Demand.{Demand, GetPointer}
 use Rattle.spec_desktop.specs.Demanding.{judge_all}
 use Rattle.spec_desktop.specs.Desktop.{Desktop, Resident, become_by, client_at, status_in, with_client}
 use Rattle.spec_desktop.specs.Happens.{AnswersThen, BecomesThen, DoesThen, ServesThen, TakesThen, changed_so, done_for}
-use Rattle.spec_desktop.specs.LeftOut.{LeftOut}
 use Rattle.spec_desktop.specs.Replies.{new_pointer_told, replies}
 use Rattle.spec_desktop.specs.Settling.{QueuesTo, after_status, becomes, pointer_without}
 use Rattle.spec_desktop.specs.Stacked.{all_windows}
@@ -37,7 +36,7 @@ after-nowhere : (s : Option Cause) (c : ℕ) (r : Resident) (q : Peer) (d : Desk
 after-nowhere None c r q d still = still
 after-nowhere (Some why) c r q d still = ap (pointer_without c) still
 
-module _ (left : LeftOut) (c id version : ℕ) (d : Desktop) (path : List Desktop) (e : Desktop) (still : d.pointer ≡ first_pointer) (lives : status_in c e ≡ None) (there : Resident)
+module _ (c id version : ℕ) (d : Desktop) (path : List Desktop) (e : Desktop) (still : d.pointer ≡ first_pointer) (lives : status_in c e ≡ None) (there : Resident)
     (is : client_at c d ≡ Some there) where
   demand : Demand
   demand = GetPointer id version
@@ -54,7 +53,7 @@ module _ (left : LeftOut) (c id version : ℕ) (d : Desktop) (path : List Deskto
       ap (status_in c) ends.0 ∙ after-status q.status c (become_by q.status c r q d) ∙ status-become c r q d there is ∙ lacking r.peer q h.1 in
       absurd (none-some Memory (sym lives ∙ ended))
 
-  did : (r : Resident) → r.owned ≡ there.owned → DoesThen left c demand r d (settling_through path e) → Same
+  did : (r : Resident) → r.owned ≡ there.owned → DoesThen c demand r d (settling_through path e) → Same
   unfolding demand
   did r owns h =
       let away : has_focus c d.pointer.focus ≡ false = ap (λ (p : Pointer). has_focus c p.focus) still in
@@ -62,8 +61,8 @@ module _ (left : LeftOut) (c id version : ℕ) (d : Desktop) (path : List Deskto
       let drawn : Resident = changed_for c demand r d in
       let same : drawn ≡ making WlPointer id version with_pointer = ap (λ (b : Bool). making WlPointer id version (drawing b with_pointer)) away in
       let owned : drawn.owned ≡ r.owned = ap (λ (m : Resident). m.owned) same in
-      let none : replies left c demand r drawn (all_windows d) d ≡ [] =
-      told-alone left.releases (new_pointer_told (has_focus c d.pointer.focus) id r.peer.serial (all_windows d) d) r drawn owned
+      let none : replies c demand r drawn (all_windows d) d ≡ [] =
+      told-alone (new_pointer_told (has_focus c d.pointer.focus) id r.peer.serial (all_windows d) d) r drawn owned
       ∙ ap (λ (b : Bool). new_pointer_told b id r.peer.serial (all_windows d) d) away in
       let queued : QueuesTo [] drawn.peer h.0 h.1 = subst (λ (events : List Said). QueuesTo events drawn.peer h.0 h.1) none h.2 in
       let settles : settling_through path e (changed_so c demand r d h.0 None) =
@@ -73,27 +72,27 @@ module _ (left : LeftOut) (c id version : ℕ) (d : Desktop) (path : List Deskto
       let ends = settled-nowhere 32 (with_client c (Some made) (done_for c demand r d)) e settles.0 nowhere settles.2 in
       ap all_windows ends.0 ∙ same-windows d (with_client c (Some made) d) (put-shows c there (Some made) d is (owned ∙ owns))
 
-  answered : (judged : Result Demand Refusal) (r : Resident) → asked_of judged ≡ Some demand → r.owned ≡ there.owned → AnswersThen left judged c r d (settling_through path e) → Same
+  answered : (judged : Result Demand Refusal) (r : Resident) → asked_of judged ≡ Some demand → r.owned ≡ there.owned → AnswersThen judged c r d (settling_through path e) → Same
   unfolding demand
   answered (Err refusal) r asked-is owns h = absurd (none-some demand asked-is)
   answered (Ok other) r asked-is owns h =
-      by (with_peer (counted r.peer) r) owns (subst (λ (x : Demand). AnswersThen left (Ok x) c r d (settling_through path e)) (same_Some other demand asked-is) h)
+      by (with_peer (counted r.peer) r) owns (subst (λ (x : Demand). AnswersThen (Ok x) c r d (settling_through path e)) (same_Some other demand asked-is) h)
     where
       by : (now : Resident) → now.owned ≡ there.owned
-          → BecomesThen (LacksMemory now.peer) c now d (settling_through path e) ⊎ DoesThen left c demand now d (settling_through path e) → Same
+          → BecomesThen (LacksMemory now.peer) c now d (settling_through path e) ⊎ DoesThen c demand now d (settling_through path e) → Same
       by now owns (inl h) = lacked now h
       by now owns (inr h) = did now owns h
 
-  took : (split : Split) (r : Resident) → asked_first left split r ≡ Some demand → r.owned ≡ there.owned → TakesThen left split c r d (settling_through path e) → Same
+  took : (split : Split) (r : Resident) → asked_first split r ≡ Some demand → r.owned ≡ there.owned → TakesThen split c r d (settling_through path e) → Same
   took (Whole object opcode size) r asked-is owns h =
-      answered (judge_all left r object opcode (take (size - 8) (drop 8 r.peer.rest))) (with_peer (with_rest (drop size r.peer.rest) r.peer) r) asked-is owns h
+      answered (judge_all r object opcode (take (size - 8) (drop 8 r.peer.rest))) (with_peer (with_rest (drop size r.peer.rest) r.peer) r) asked-is owns h
   took Bad r asked-is owns h = absurd (none-some demand asked-is)
   took More r asked-is owns h = absurd (none-some demand asked-is)
 
 pub new-pointer-shows-nothing : NewPointerShowsNothing
 unfolding demand
-new-pointer-shows-nothing left c id version d path e still asks h lives = at (client_at c d) refl h
+new-pointer-shows-nothing c id version d path e still asks h lives = at (client_at c d) refl h
   where
-    at : (o : Option Resident) → client_at c d ≡ o → ServesThen left c o d (settling_through path e) → all_windows e ≡ all_windows d
+    at : (o : Option Resident) → client_at c d ≡ o → ServesThen c o d (settling_through path e) → all_windows e ≡ all_windows d
     at None is h = absurd h
-    at (Some r) is h = took left c id version d path e still lives r is (split_of r.peer.rest) r (sym (ap (asked_by left) is) ∙ asks) refl h.1
+    at (Some r) is h = took c id version d path e still lives r is (split_of r.peer.rest) r (sym (ap asked_by is) ∙ asks) refl h.1

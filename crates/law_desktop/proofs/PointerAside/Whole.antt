@@ -11,7 +11,7 @@ use Rattle.law_desktop.proofs.PointerAside.Marking.{last-marks-nothing, marks-ap
 use Rattle.law_desktop.proofs.PointerAside.Rounds.{rounds-settle}
 
 pub steps-by-rounds : StepsByRounds
-steps-by-rounds left h p d aside e rounds mid last on all =
+steps-by-rounds h p d aside e rounds mid last on all =
     let start : Desktop = pointed (p e) e in
     let settles = rounds-settle all.count 33 (unstruck start) mid last rounds all.few all.each all.settles all.over in
     let later : List Desktop = rounds ++ last.desktop ∷ [] in

@@ -102,10 +102,7 @@ effected where_to surface effect x r y = cond (y.id == x.id) (with_effect r.peer
 effect-shell : (where_to : Placing) (surface : ℕ) (effect : Effect) (x : XdgSurface) (r : Resident)
     → (effect_placing where_to surface effect (Some x) r).owned.shell ≡ map (effected where_to surface effect x r) r.owned.shell
 effect-shell where_to surface Stays x r = refl
-effect-shell where_to surface Unconfigured x r = refl
-effect-shell where_to surface Configures x r = refl
-effect-shell where_to surface Maps x r = refl
-effect-shell where_to surface Unmaps x r = refl
+effect-shell where_to surface effect x r = refl
 
 -- ---- a commit
 
@@ -173,19 +170,14 @@ module _ (c surface : ℕ) (r : Resident) (d e : Desktop) (had : HasTrees d) (ha
             taken-out c root d e had.sound has.sound touches (unpopped is) (subst (λ n. e.standing ≡ without_surface_of c n d.standing) at-root stack)
         by Maps false is stack = same stack
         by Unmaps false is stack = same stack
-        by Stays b is stack = same stack
-        by Unconfigured b is stack = same stack
-        by Configures b is stack = same stack
+        by effect b is stack = same stack
 
   pub commit-changes : ChangesAt (Some surface) c d e
   commit-changes = at (xdg_of surface r.owned.shell) refl done.own done.stack
     where
       nothing : (effect : Effect) → (stacked_by effect (is_toplevel None) c surface d).standing ≡ d.standing
       nothing Stays = refl
-      nothing Unconfigured = refl
-      nothing Configures = refl
-      nothing Maps = refl
-      nothing Unmaps = refl
+      nothing effect = refl
 
       at : (o : Option XdgSurface) → xdg_of surface r.owned.shell ≡ o
           → owned_in e c ≡ (effect_placing (placement_now c r d) surface (effect_of_commit r surface) o (tree_committed surface r)).owned

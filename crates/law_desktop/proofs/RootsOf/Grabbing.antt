@@ -45,7 +45,6 @@ use Rattle.spec_desktop.specs.WlSubsurface.{beside, demand_by_link, has_subsurfa
 use Rattle.spec_desktop.specs.WlSurface.{surface_created, transform_set, will_be_whole, scale_set}
 use Rattle.spec_desktop.specs.XdgPopup.{grab_of, is_no_popup, may_be_parent, popup_asked, popup_destroyed, popup_made, positioner_of, repositioned_by}
 use Rattle.spec_desktop.specs.XdgShell.{acknowledged_by, base_destroyed, geometry_set, role_of, state_asked, toplevel_made, xdg_surface_destroyed, xdg_surface_made}
-use Rattle.spec_desktop.specs.LeftOut.{LeftOut}
 
 -- the popup that asks for a grab isn't mapped
 abbrev pub IsBefore : Resident → Demand → Type 0
@@ -87,16 +86,11 @@ module _ (r : Resident) where
 
   surface-before : (object version : ℕ) (request : WlSurfaceRequest) → IsBeforeSo r (surface_demand r object version request)
   surface-before object version surface.Destroy = if-before (is_some (xdg_of object r.owned.shell)) _ _ (λ there. tt) (λ none. tt)
-  surface-before object version (surface.Frame callback) = tt
   surface-before object version surface.Commit =
       whole-before (will_be_whole r object) object _ (commit-before (xdg_of object r.owned.shell) object (effect_of_commit r object))
   surface-before object version (surface.SetBufferTransform transform) = asks-before (transform_set object transform)
   surface-before object version (surface.SetBufferScale scale) = asks-before (scale_set object scale)
-  surface-before object version (surface.Attach buffer x y) = tt
-  surface-before object version (surface.Damage x y width height) = tt
-  surface-before object version (surface.DamageBuffer x y width height) = tt
-  surface-before object version (surface.SetOpaqueRegion region) = tt
-  surface-before object version (surface.SetInputRegion region) = tt
+  surface-before object version request = tt
 
   -- ---- subsurfaces
 
@@ -206,9 +200,8 @@ module _ (r : Resident) where
   interface-before (ToPopup request) object version = popup-asked-before object (xdg_with object r.owned.shell) request
   interface-before request object version = own-before object version request
 
-  demand-before : (left : LeftOut) (object version : ℕ) (m : Message) → IsBeforeSo r (demand_of left r object version m)
-  demand-before left object version m =
-      if-before (left.requests (request_of m)) _ _ (λ out. tt) (λ served. interface-before (request_of m) object version)
+  demand-before : (object version : ℕ) (m : Message) → IsBeforeSo r (demand_of r object version m)
+  demand-before object version m = interface-before (request_of m) object version
 
   -- ---- the judgement
 
@@ -223,12 +216,12 @@ module _ (r : Resident) where
   judged-before objects held demand (Ok m) before =
       if-before (list_all (fits objects) (objects_named m)) _ _ (λ fit. new_id-before objects held (new_id_in m) (demand m) (before m)) (λ unfit. tt)
 
-  judged_at-before : (left : LeftOut) (object opcode : ℕ) (body : List ℕ) (o : Option Object)
-      → IsBeforeSo r (judged_at r.peer.objects r.peer.held (λ version m. demand_of left r object version m) opcode body o)
-  judged_at-before left object opcode body None = tt
-  judged_at-before left object opcode body (Some o) =
-      judged-before r.peer.objects r.peer.held (λ m. demand_of left r object o.version m) (decoded o.interface o.version opcode body) (λ m. demand-before left object o.version m)
+  judged_at-before : (object opcode : ℕ) (body : List ℕ) (o : Option Object)
+      → IsBeforeSo r (judged_at r.peer.objects r.peer.held (λ version m. demand_of r object version m) opcode body o)
+  judged_at-before object opcode body None = tt
+  judged_at-before object opcode body (Some o) =
+      judged-before r.peer.objects r.peer.held (λ m. demand_of r object o.version m) (decoded o.interface o.version opcode body) (λ m. demand-before object o.version m)
 
   -- a message that is accepted is so
-  pub grabs-before : (left : LeftOut) (object opcode : ℕ) (body : List ℕ) (demand : Demand) → judge_all left r object opcode body ≡ Ok demand → IsBefore r demand
-  grabs-before left object opcode body demand e = subst (IsBeforeSo r) e (judged_at-before left object opcode body (r.peer.objects object))
+  pub grabs-before : (object opcode : ℕ) (body : List ℕ) (demand : Demand) → judge_all r object opcode body ≡ Ok demand → IsBefore r demand
+  grabs-before object opcode body demand e = subst (IsBeforeSo r) e (judged_at-before object opcode body (r.peer.objects object))

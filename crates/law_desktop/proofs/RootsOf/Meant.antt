@@ -66,5 +66,5 @@ meant-by (GetPopup id version xdg parent positioner) r owns is before = bare (xd
 meant-by demand r owns is before = tt
 
 pub judged-is-meant : JudgedIsMeant
-judged-is-meant left r object opcode body demand owns judged =
-    meant-by demand r owns (allowed left r object opcode body demand judged) (grabs-before r left object opcode body demand judged)
+judged-is-meant r object opcode body demand owns judged =
+    meant-by demand r owns (allowed r object opcode body demand judged) (grabs-before r object opcode body demand judged)

@@ -14,7 +14,6 @@ use Rattle.spec_desktop.specs.Demand.{Demand}
 use Rattle.spec_desktop.specs.Demanding.{judge_all}
 use Rattle.spec_desktop.specs.Desktop.{Desktop, Resident, become, become_by, client_at, client_in, owned_in, owned_of, status_in, with_client}
 use Rattle.spec_desktop.specs.Happens.{wants_memory}
-use Rattle.spec_desktop.specs.LeftOut.{LeftOut}
 use Rattle.spec_desktop.specs.Replies.{replies}
 use Rattle.spec_desktop.specs.Settling.{becomes}
 use Rattle.spec_desktop.specs.Stacked.{all_windows}
@@ -38,7 +37,7 @@ use Rattle.law_desktop.proofs.MessageWays.Told.{stacked-still}
 
 -- ---- a message
 
-module _ (left : LeftOut) (c : ℕ) (r : Resident) (d e : Desktop) (still : d.pointer ≡ first_pointer) (here : client_at c d ≡ Some r) (lives : r.peer.status ≡ None) (alive : status_in c e ≡ None) where
+module _ (c : ℕ) (r : Resident) (d e : Desktop) (still : d.pointer ≡ first_pointer) (here : client_at c d ≡ Some r) (lives : r.peer.status ≡ None) (alive : status_in c e ≡ None) where
   -- a client that lives wasn't told that it ended
   ends : (Q : Peer → Type 0) → ((q : Peer) → Q q → q.status ≡ None → ⊥) → (now : Resident) → Becomes Q c now d e → ⊥
   ends Q never now h =
@@ -58,7 +57,7 @@ module _ (left : LeftOut) (c : ℕ) (r : Resident) (d e : Desktop) (still : d.po
     On = stacked_for c demand (with_peer p r) (all_windows d) d
 
     abbrev Events : List Said
-    Events = replies left c demand (with_peer p r) (changed_for c demand (with_peer p r) d) (all_windows d) d
+    Events = replies c demand (with_peer p r) (changed_for c demand (with_peer p r) d) (all_windows d) d
 
     client-on : (other : ℕ) → client_at other On ≡ client_at other d
     client-on other =
@@ -70,7 +69,7 @@ module _ (left : LeftOut) (c : ℕ) (r : Resident) (d e : Desktop) (still : d.po
     on-still : On.pointer ≡ first_pointer
     on-still = stacked-still c demand Now (all_windows d) d still
 
-    done : Does left c demand (with_peer p r) d e → IsDone c demand (with_peer p r) d e
+    done : Does c demand (with_peer p r) d e → IsDone c demand (with_peer p r) d e
     done h =
         let first : IsTold Events c Made On e = subst (λ (x : Desktop). IsTold Events c Made x e) (done-still c demand Now d still) h in
         let living : Made.peer.status ≡ None = (changed-steady c demand d Now).0 ∙ steady in
@@ -89,17 +88,17 @@ module _ (left : LeftOut) (c : ℕ) (r : Resident) (d e : Desktop) (still : d.po
           stack = ap (λ (x : Desktop). x.standing) lived;
         }
 
-    wants : (b : Bool) → WantsOr b (Does left c demand (with_peer p r) d e) c (with_peer p r) d e → IsDone c demand (with_peer p r) d e
+    wants : (b : Bool) → WantsOr b (Does c demand (with_peer p r) d e) c (with_peer p r) d e → IsDone c demand (with_peer p r) d e
     wants false h = done h
     wants true (inl h) = absurd (ends (LacksMemory p) (lacking p) (with_peer p r) h)
     wants true (inr h) = done h
 
   -- it is demanded, and done
   abbrev IsMade : Split → Type 0
-  IsMade split = (demand : Demand) × (p : Peer) × IsDemanded left split r demand × IsDone c demand (with_peer p r) d e
+  IsMade split = (demand : Demand) × (p : Peer) × IsDemanded split r demand × IsDone c demand (with_peer p r) d e
 
-  answers : (object opcode size : ℕ) (judged : Result Demand Refusal) → judge_all left r object opcode (take (size - 8) (drop 8 r.peer.rest)) ≡ judged
-      → Answers left judged c (with_peer (with_rest (drop size r.peer.rest) r.peer) r) d e → IsMade (Whole object opcode size)
+  answers : (object opcode size : ℕ) (judged : Result Demand Refusal) → judge_all r object opcode (take (size - 8) (drop 8 r.peer.rest)) ≡ judged
+      → Answers judged c (with_peer (with_rest (drop size r.peer.rest) r.peer) r) d e → IsMade (Whole object opcode size)
   answers object opcode size (Ok demand) judged h =
       let p : Peer = counted (with_rest (drop size r.peer.rest) r.peer) in
       (demand, p, judged, wants demand p lives (wants_memory demand) h)
@@ -107,20 +106,20 @@ module _ (left : LeftOut) (c : ℕ) (r : Resident) (d e : Desktop) (still : d.po
       let p : Peer = with_rest (drop size r.peer.rest) r.peer in
       absurd (ends (Errs refusal p) (erred refusal p) (with_peer p r) h)
 
-  takes : (split : Split) → Takes left split c r d e → IsMade split
-  takes (Whole object opcode size) h = answers object opcode size (judge_all left r object opcode (take (size - 8) (drop 8 r.peer.rest))) refl h
+  takes : (split : Split) → Takes split c r d e → IsMade split
+  takes (Whole object opcode size) h = answers object opcode size (judge_all r object opcode (take (size - 8) (drop 8 r.peer.rest))) refl h
   takes Bad h = absurd (ends (Errs (display_error InvalidMethod) r.peer) (erred (display_error InvalidMethod) r.peer) r h)
   takes More h = absurd h
 
-meant : (left : LeftOut) (r : Resident) → OwnsInOrder r → (split : Split) (demand : Demand) → IsDemanded left split r demand → IsMeant demand r
-meant left r owns (Whole object opcode size) demand judged = judged-is-meant left r object opcode (take (size - 8) (drop 8 r.peer.rest)) demand owns judged
-meant left r owns Bad demand judged = absurd judged
-meant left r owns More demand judged = absurd judged
+meant : (r : Resident) → OwnsInOrder r → (split : Split) (demand : Demand) → IsDemanded split r demand → IsMeant demand r
+meant r owns (Whole object opcode size) demand judged = judged-is-meant r object opcode (take (size - 8) (drop 8 r.peer.rest)) demand owns judged
+meant r owns Bad demand judged = absurd judged
+meant r owns More demand judged = absurd judged
 
 pub messages-change : MessagesChangeOneToplevel
-messages-change left c r d e order shown here serves alive =
-    let h : ServesAt left c (Some r) d e = subst (λ (o : Option Resident). ServesAt left c o d e) here serves in
-    let made = takes left c r d e order.pointer here h.0 alive (split_of r.peer.rest) h.1 in
+messages-change c r d e order shown here serves alive =
+    let h : ServesAt c (Some r) d e = subst (λ (o : Option Resident). ServesAt c o d e) here serves in
+    let made = takes c r d e order.pointer here h.0 alive (split_of r.peer.rest) h.1 in
     record {
       demand = made.0;
       peer = made.1;
@@ -128,6 +127,6 @@ messages-change left c r d e order shown here serves alive =
       done = made.3;
       changes =
           demands-change made.0 c r made.1 d e (in-order-has-trees d order shown)
-          (in-order-has-trees e (messages_keep_in_order left c d e order serves) (messages_keep_shown left c d e order shown serves)) here
-          (meant left r (clients_are_in_order d c r order here h.0) (split_of r.peer.rest) made.0 made.2) made.3;
+          (in-order-has-trees e (messages_keep_in_order c d e order serves) (messages_keep_shown c d e order shown serves)) here
+          (meant r (clients_are_in_order d c r order here h.0) (split_of r.peer.rest) made.0 made.2) made.3;
     }

@@ -81,10 +81,8 @@ role-mapped None e = absurd (differ e)
 role-mapped (Some object) e = kind object.kind refl e
   where
     at-stage : (s : Stage) → object.stage ≡ s → is_mapped_at (Some s) ≡ true → object.stage ≡ Mapped
-    at-stage stage.Fresh is e = absurd (differ e)
-    at-stage stage.Waiting is e = absurd (differ e)
-    at-stage stage.Ready is e = absurd (differ e)
     at-stage stage.Mapped is e = is
+    at-stage s is e = absurd (differ e)
 
     kind : (k : Kind) → object.kind ≡ k → (is_toplevel_kind k && is_mapped_at (cond (is_dismissed_kind k) None (Some object.stage))) ≡ true → IsMappedToplevel (Some object)
     kind Toplevel is e = (is, at-stage object.stage refl e)
@@ -97,9 +95,7 @@ mapped-toplevel (Some x) e = role-mapped x.role e
 -- a popup that is mapped
 stage-mapped : (s : Stage) → is_mapped_stage s ≡ true → is_mapped_at (Some s) ≡ true
 stage-mapped stage.Fresh e = e
-stage-mapped stage.Waiting e = e
-stage-mapped stage.Ready e = e
-stage-mapped stage.Mapped e = e
+stage-mapped s e = e
 
 heeded-mapped : (s : Stage) (b : Bool) → (is_mapped_stage s && not b) ≡ true → is_mapped_at (cond b None (Some s)) ≡ true
 heeded-mapped s true e = absurd (differ (and-right (is_mapped_stage s) false e))

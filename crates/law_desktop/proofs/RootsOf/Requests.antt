@@ -84,9 +84,7 @@ acknowledging-keeps serial = record {
 
 acknowledged-mapped : (s : Stage) → is_mapped_stage (acknowledged s) ≡ is_mapped_stage s
 acknowledged-mapped stage.Fresh = refl
-acknowledged-mapped stage.Waiting = refl
-acknowledged-mapped stage.Ready = refl
-acknowledged-mapped stage.Mapped = refl
+acknowledged-mapped s = refl
 
 pub acknowledging-stacked : (serial : ℕ) → KeepsStacked (acknowledging serial)
 acknowledging-stacked serial = record { since = λ x. refl; popups = λ x. role (up_to serial x.configures) x (acknowledging serial x) x.role }

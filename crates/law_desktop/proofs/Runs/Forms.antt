@@ -8,7 +8,6 @@ use Rattle.spec_desktop.specs.Windows.{Place}
 use Rattle.spec_desktop.specs.declared.answers.Done.{Done}
 use Rattle.spec_desktop.specs.Demand.{Demand}
 use Rattle.spec_desktop.specs.Desktop.{Desktop, Resident}
-use Rattle.spec_desktop.specs.LeftOut.{LeftOut}
 use Rattle.spec_desktop.specs.Settling.{ended_all, struck_by}
 use Rattle.spec_desktop.specs.Happens.{BecomesThen, ConnectsThen, DoesThen, WantsOrThen, AnswersThen, TakesThen, ServesThen, settling, LeavesThen, ChangesThen, ending, ShowsThen, MovesThen}
 use Rattle.spec_desktop.specs.Happens.{PressesThen, ReleasesThen, ButtonsThen}
@@ -16,20 +15,20 @@ use Rattle.spec_desktop.specs.Happens.{PressesThen, ReleasesThen, ButtonsThen}
 abbrev pub Becomes : (Peer → Type 0) → ℕ → Resident → Desktop → Desktop → Type 0
 Becomes Q c r d new = BecomesThen Q c r d (settling new)
 
-abbrev pub Does : LeftOut → ℕ → Demand → Resident → Desktop → Desktop → Type 0
-Does left c demand r d new = DoesThen left c demand r d (settling new)
+abbrev pub Does : ℕ → Demand → Resident → Desktop → Desktop → Type 0
+Does c demand r d new = DoesThen c demand r d (settling new)
 
 abbrev pub WantsOr : Bool → Type 0 → ℕ → Resident → Desktop → Desktop → Type 0
 WantsOr b Later c r d new = WantsOrThen b Later c r d (settling new)
 
-abbrev pub Answers : LeftOut → Result Demand Refusal → ℕ → Resident → Desktop → Desktop → Type 0
-Answers left judged c r d new = AnswersThen left judged c r d (settling new)
+abbrev pub Answers : Result Demand Refusal → ℕ → Resident → Desktop → Desktop → Type 0
+Answers judged c r d new = AnswersThen judged c r d (settling new)
 
-abbrev pub Takes : LeftOut → Split → ℕ → Resident → Desktop → Desktop → Type 0
-Takes left split c r d new = TakesThen left split c r d (settling new)
+abbrev pub Takes : Split → ℕ → Resident → Desktop → Desktop → Type 0
+Takes split c r d new = TakesThen split c r d (settling new)
 
-abbrev pub ServesAt : LeftOut → ℕ → Option Resident → Desktop → Desktop → Type 0
-ServesAt left c r d new = ServesThen left c r d (settling new)
+abbrev pub ServesAt : ℕ → Option Resident → Desktop → Desktop → Type 0
+ServesAt c r d new = ServesThen c r d (settling new)
 
 -- the client ends where an event of its wasn't queued
 abbrev pub after_why : Option Cause → ℕ → Desktop → Desktop

@@ -10,23 +10,21 @@ use Rattle.spec_desktop.specs.declared.cause.Cause.{Cause}
 use Rattle.spec_desktop.specs.declared.refusals.ErrorCode.TheVariants.{InvalidMethod}
 use Rattle.spec_desktop.specs.declared.refusals.Refusal.{Refusal}
 use Rattle.spec_desktop.specs.Peer.{IsIdle, IsIdleAt, Peer, counted, ended, has_room, queued, removed, with_rest}
-use Rattle.spec_desktop.specs.Plain.{or_slow as refused_or, refused}
 use Rattle.spec_desktop.specs.Told.{Said, display_error, error_told}
 use Rattle.wl_surface.specs.Waiting.{Callback}
 use Rattle.spec_desktop.specs.PointerActions.{PointerAction, Leave, Enter, Motion, Button, Raise, MoveWindow, Dismiss, PointerInput, Settle, actions}
 use Rattle.spec_desktop.specs.Windows.{Window}
-use Rattle.law_desktop.specs.Ample.{acts, answered, applied, applied_all, became, done, ends_and_settles, ends_first, or_slow, queued_to, served, served_all, served_at, served_by, settles, settles_all}
+use Rattle.law_desktop.specs.Ample.{acts, answered, applied, applied_all, became, done, ends_and_settles, ends_first, or_slow, queued_to, refused, refused_or, served, served_all, served_at, served_by, settles, settles_all}
 use Rattle.law_desktop.specs.Ample.{taken, tells, tells_at, tells_unless}
 use Rattle.wl_shell.specs.Popups.{is_toplevel}
 use Rattle.wl_shell.specs.Positioner.{Positioner}
 use Rattle.wl_shell.specs.Shell.{Effect, Stays, Unconfigured, Configures, Maps, Unmaps, XdgSurface, xdg_at, xdg_of}
 use Rattle.spec_desktop.specs.Changing.{Placing, placement_now, callbacks_of, changed_for, drawing, effect_placing, grab_allowed, grabbed, has_focus, in_rising_order, mode_set, popup_given_to, stacked_by, stacked_for}
 use Rattle.spec_desktop.specs.Changing.{tree_committed}
-use Rattle.spec_desktop.specs.Demand.{Demand, Asks, EndSurface, AskFrame, CommitTree, GetSubsurface, EndSubsurface, SetMode, GetPointer, MakeCursor}
-use Rattle.spec_desktop.specs.Demand.{GetPopup, Grab, EndPopup, EndToplevel, Move}
+use Rattle.spec_desktop.specs.Demand.{Demand, Asks, EndSurface, CommitTree, SetMode, GetPointer}
+use Rattle.spec_desktop.specs.Demand.{GetPopup, Grab}
 use Rattle.spec_desktop.specs.Demanding.{effect_of_commit, judge_all}
 use Rattle.spec_desktop.specs.Desktop.{Desktop, Resident, become_by, client_at, client_in, place, resident_of, with_client, with_number, with_place}
-use Rattle.spec_desktop.specs.LeftOut.{LeftOut}
 use Rattle.spec_desktop.specs.Pointing.{has_pointers}
 use Rattle.spec_desktop.specs.Replies.{replies}
 use Rattle.spec_desktop.specs.Happens.{done_for}
@@ -195,46 +193,25 @@ grab-quiet false xdg r = (refl, refl)
 pub change-quiet : (c : ℕ) (demand : Demand) (d : Desktop) (r : Resident) → ((changed_for c demand r d).peer.status ≡ r.peer.status) × ((changed_for c demand r d).peer.rest ≡ r.peer.rest)
 change-quiet c (Asks ask) d r = (ask-status ask r, ask-rest ask r)
 change-quiet c (EndSurface id) d r = without-quiet (callbacks_of id r) _
-change-quiet c (AskFrame id version surface) d r = (refl, refl)
 change-quiet c (CommitTree surface) d r = effect-quiet (placement_now c r d) surface (effect_of_commit r surface) (xdg_of surface r.owned.shell) (tree_committed surface r)
-change-quiet c (GetSubsurface id version child parent) d r = (refl, refl)
-change-quiet c (EndSubsurface id) d r = (refl, refl)
 change-quiet c (SetMode link synchronised) d r = mode-quiet link synchronised r
 change-quiet c (GetPointer id version) d r = drawing-quiet (has_focus c d.pointer.focus) (record r { pointers = in_rising_order id r.pointers })
-change-quiet c (MakeCursor surface) d r = (refl, refl)
 change-quiet c (GetPopup id version xdg parent p) d r = popup-quiet id xdg parent p (xdg_at xdg r.owned.shell) r
 change-quiet c (Reposition xdg token p) d r = repositioned-quiet (placement_now c r d) p (popup_at xdg r.owned.shell) r
 change-quiet c (Grab xdg serial) d r = grab-quiet (grab_allowed c xdg serial r d) xdg r
-change-quiet c (EndPopup id xdg) d r = (refl, refl)
-change-quiet c (EndToplevel id xdg top) d r = (refl, refl)
-change-quiet c (Move surface serial) d r = (refl, refl)
+change-quiet c demand d r = (refl, refl)
 
 -- the clients aren't among what the stack and the pointer are
 pub stacked-by : (effect : Effect) (b : Bool) (c surface : ℕ) (d : Desktop) → (stacked_by effect b c surface d).clients ≡ d.clients
-stacked-by Stays b c surface d = refl
-stacked-by Unconfigured b c surface d = refl
-stacked-by Configures b c surface d = refl
 stacked-by Maps true c surface d = refl
 stacked-by Maps false c surface d = refl
 stacked-by Unmaps true c surface d = refl
 stacked-by Unmaps false c surface d = refl
+stacked-by effect b c surface d = refl
 
 pub stacked-for : (c : ℕ) (demand : Demand) (r : Resident) (windows : List Window) (d : Desktop) → (stacked_for c demand r windows d).clients ≡ d.clients
-stacked-for c (Asks ask) r windows d = refl
-stacked-for c (EndSurface id) r windows d = refl
-stacked-for c (AskFrame id version surface) r windows d = refl
 stacked-for c (CommitTree surface) r windows d = stacked-by (effect_of_commit r surface) (is_toplevel (xdg_of surface r.owned.shell)) c surface d
-stacked-for c (GetSubsurface id version child parent) r windows d = refl
-stacked-for c (EndSubsurface id) r windows d = refl
-stacked-for c (SetMode link synchronised) r windows d = refl
-stacked-for c (GetPointer id version) r windows d = refl
-stacked-for c (MakeCursor surface) r windows d = refl
-stacked-for c (GetPopup id version xdg parent p) r windows d = refl
-stacked-for c (Reposition xdg token p) r windows d = refl
-stacked-for c (Grab xdg serial) r windows d = refl
-stacked-for c (EndPopup id xdg) r windows d = refl
-stacked-for c (EndToplevel id xdg top) r windows d = refl
-stacked-for c (Move surface serial) r windows d = refl
+stacked-for c demand r windows d = refl
 
 -- ---- one message
 
@@ -245,138 +222,137 @@ why-leaves : (rest : List ℕ) (c : ℕ) (why : Option Cause) (d : Desktop) → 
 why-leaves rest c None d h = h
 why-leaves rest c (Some why) d h = ended-leaves-at rest why c c (client_at c d) d h
 
-module _ (out : LeftOut) where
-  done-leaves : (rest : List ℕ) (c : ℕ) (demand : Demand) (r : Resident) (d : Desktop) (there : Resident) → client_at c d ≡ Some there → LeavesBy rest r.peer.status r.peer.rest
-      → Leaves rest c (done out c demand r d)
-  done-leaves rest c demand r d there e h =
-      let new : Resident = changed_for c demand r d in
-      let told : Peer × Option Cause = queued_to (replies out c demand r new (all_windows d) d) new.peer in
-      let quiet = change-quiet c demand d r in
-      let left : LeavesBy rest told.0.status told.0.rest =
-      queued-leaves rest (replies out c demand r new (all_windows d) d) new.peer (moved-leaves rest r.peer.status new.peer.status r.peer.rest new.peer.rest quiet.0 quiet.1 h) in
-      let found : client_at c (done_for c demand r d) ≡ Some there = ap (λ (clients : List (Option Resident)). client_in clients c) (stacked-for c demand r (all_windows d) d) ∙ e in
-      all-leaves rest c (after_why told.1 c (with_client c (Some (with_peer told.0 new)) (done_for c demand r d)))
-      (why-leaves rest c told.1 (with_client c (Some (with_peer told.0 new)) (done_for c demand r d)) (put-leaves rest c (Some (with_peer told.0 new)) (done_for c demand r d) there found left))
+done-leaves : (rest : List ℕ) (c : ℕ) (demand : Demand) (r : Resident) (d : Desktop) (there : Resident) → client_at c d ≡ Some there → LeavesBy rest r.peer.status r.peer.rest
+    → Leaves rest c (done c demand r d)
+done-leaves rest c demand r d there e h =
+    let new : Resident = changed_for c demand r d in
+    let told : Peer × Option Cause = queued_to (replies c demand r new (all_windows d) d) new.peer in
+    let quiet = change-quiet c demand d r in
+    let left : LeavesBy rest told.0.status told.0.rest =
+    queued-leaves rest (replies c demand r new (all_windows d) d) new.peer (moved-leaves rest r.peer.status new.peer.status r.peer.rest new.peer.rest quiet.0 quiet.1 h) in
+    let found : client_at c (done_for c demand r d) ≡ Some there = ap (λ (clients : List (Option Resident)). client_in clients c) (stacked-for c demand r (all_windows d) d) ∙ e in
+    all-leaves rest c (after_why told.1 c (with_client c (Some (with_peer told.0 new)) (done_for c demand r d)))
+    (why-leaves rest c told.1 (with_client c (Some (with_peer told.0 new)) (done_for c demand r d)) (put-leaves rest c (Some (with_peer told.0 new)) (done_for c demand r d) there found left))
 
-  refused-by : (rest : List ℕ) (b : Bool) (cause : Cause) (p q : Peer) → LeavesBy rest (refused_or b (ended cause q) p).status (refused_or b (ended cause q) p).rest
-  refused-by rest true cause p q = tt
-  refused-by rest false cause p q = tt
+refused-by : (rest : List ℕ) (b : Bool) (cause : Cause) (p q : Peer) → LeavesBy rest (refused_or b (ended cause q) p).status (refused_or b (ended cause q) p).rest
+refused-by rest true cause p q = tt
+refused-by rest false cause p q = tt
 
-  become-put : (rest : List ℕ) (s : Option Cause) (c : ℕ) (r : Resident) (q : Peer) (d : Desktop) (there : Resident) → client_at c d ≡ Some there → LeavesBy rest q.status q.rest
-      → Leaves rest c (after_status s c (become_by s c r q d))
-  become-put rest None c r q d there e h = put-leaves rest c (Some (record r { peer = q })) d there e h
-  become-put rest (Some why) c r q d there e h =
-      subst (λ (o : Option Resident). LeavesAt rest o) (sym (number-same d.clients c (Some (resident_of q)) there e)) h
+become-put : (rest : List ℕ) (s : Option Cause) (c : ℕ) (r : Resident) (q : Peer) (d : Desktop) (there : Resident) → client_at c d ≡ Some there → LeavesBy rest q.status q.rest
+    → Leaves rest c (after_status s c (become_by s c r q d))
+become-put rest None c r q d there e h = put-leaves rest c (Some (record r { peer = q })) d there e h
+become-put rest (Some why) c r q d there e h =
+    subst (λ (o : Option Resident). LeavesAt rest o) (sym (number-same d.clients c (Some (resident_of q)) there e)) h
 
-  refused-leaves : (rest : List ℕ) (refusal : Refusal) (c : ℕ) (r : Resident) (d : Desktop) (there : Resident) → client_at c d ≡ Some there → Leaves rest c (became c r (refused refusal r.peer) d)
-  refused-leaves rest refusal c r d there e =
-      let q : Peer = refused refusal r.peer in
-      all-leaves rest c (becomes c r q d)
-      (become-put rest q.status c r q d there e (refused-by rest (has_room r.peer.unsent (error_told refusal)) _ r.peer (queued (error_told refusal) r.peer)))
+refused-leaves : (rest : List ℕ) (refusal : Refusal) (c : ℕ) (r : Resident) (d : Desktop) (there : Resident) → client_at c d ≡ Some there → Leaves rest c (became c r (refused refusal r.peer) d)
+refused-leaves rest refusal c r d there e =
+    let q : Peer = refused refusal r.peer in
+    all-leaves rest c (becomes c r q d)
+    (become-put rest q.status c r q d there e (refused-by rest (has_room r.peer.unsent (error_told refusal)) _ r.peer (queued (error_told refusal) r.peer)))
 
-  answered-leaves : (rest : List ℕ) (judged : Result Demand Refusal) (c : ℕ) (r : Resident) (d : Desktop) (there : Resident) → client_at c d ≡ Some there → LeavesBy rest r.peer.status r.peer.rest
-      → Leaves rest c (answered out judged c r d)
-  answered-leaves rest (Ok demand) c r d there e h = done-leaves rest c demand (with_peer (counted r.peer) r) d there e h
-  answered-leaves rest (Err refusal) c r d there e h = refused-leaves rest refusal c r d there e
+answered-leaves : (rest : List ℕ) (judged : Result Demand Refusal) (c : ℕ) (r : Resident) (d : Desktop) (there : Resident) → client_at c d ≡ Some there → LeavesBy rest r.peer.status r.peer.rest
+    → Leaves rest c (answered judged c r d)
+answered-leaves rest (Ok demand) c r d there e h = done-leaves rest c demand (with_peer (counted r.peer) r) d there e h
+answered-leaves rest (Err refusal) c r d there e h = refused-leaves rest refusal c r d there e
 
-  -- ---- all messages
+-- ---- all messages
 
-  -- the client ended, no whole message is left of it, or at most n bytes are
-  abbrev IsWithinBy : ℕ → Option Cause → List ℕ → Type 0
-  IsWithinBy n (Some cause) rest = Unit {0}
-  IsWithinBy n None rest = (split_of rest ≡ More) ⊎ (length rest ≤ n)
+-- the client ended, no whole message is left of it, or at most n bytes are
+abbrev IsWithinBy : ℕ → Option Cause → List ℕ → Type 0
+IsWithinBy n (Some cause) rest = Unit {0}
+IsWithinBy n None rest = (split_of rest ≡ More) ⊎ (length rest ≤ n)
 
-  abbrev IsWithinAt : ℕ → Option Resident → Type 0
-  IsWithinAt n None = ⊥
-  IsWithinAt n (Some r) = IsWithinBy n r.peer.status r.peer.rest
+abbrev IsWithinAt : ℕ → Option Resident → Type 0
+IsWithinAt n None = ⊥
+IsWithinAt n (Some r) = IsWithinBy n r.peer.status r.peer.rest
 
-  abbrev IsWithin : ℕ → ℕ → Desktop → Type 0
-  IsWithin n c d = IsWithinAt n (client_at c d)
+abbrev IsWithin : ℕ → ℕ → Desktop → Type 0
+IsWithin n c d = IsWithinAt n (client_at c d)
 
-  short-within-by : (n : ℕ) (rest now : List ℕ) (s : Option Cause) → length rest ≤ n → LeavesBy rest s now → IsWithinBy n s now
-  short-within-by n rest now None short h = inr (subst (λ (bytes : List ℕ). length bytes ≤ n) (sym h) short)
-  short-within-by n rest now (Some cause) short h = tt
+short-within-by : (n : ℕ) (rest now : List ℕ) (s : Option Cause) → length rest ≤ n → LeavesBy rest s now → IsWithinBy n s now
+short-within-by n rest now None short h = inr (subst (λ (bytes : List ℕ). length bytes ≤ n) (sym h) short)
+short-within-by n rest now (Some cause) short h = tt
 
-  short-within-at : (n : ℕ) (rest : List ℕ) (o : Option Resident) → length rest ≤ n → LeavesAt rest o → IsWithinAt n o
-  short-within-at n rest None short h = h
-  short-within-at n rest (Some r) short h = short-within-by n rest r.peer.rest r.peer.status short h
+short-within-at : (n : ℕ) (rest : List ℕ) (o : Option Resident) → length rest ≤ n → LeavesAt rest o → IsWithinAt n o
+short-within-at n rest None short h = h
+short-within-at n rest (Some r) short h = short-within-by n rest r.peer.rest r.peer.status short h
 
-  short-within : (n c : ℕ) (rest : List ℕ) (d : Desktop) → length rest ≤ n → Leaves rest c d → IsWithin n c d
-  short-within n c rest d short h = short-within-at n rest (client_at c d) short h
+short-within : (n c : ℕ) (rest : List ℕ) (d : Desktop) → length rest ≤ n → Leaves rest c d → IsWithin n c d
+short-within n c rest d short h = short-within-at n rest (client_at c d) short h
 
-  -- a whole message has a size
-  sized-by : (short ok cut : Bool) (o op n a b size : ℕ) → (if short then More else (if ok then (if cut then More else Message o op n) else Bad)) ≡ Message a b size → (ok ≡ true) × (n ≡ size)
-  sized-by true ok cut o op n a b size e = absurd (cc)
-  sized-by false false cut o op n a b size e = absurd (cc)
-  sized-by false true true o op n a b size e = absurd (cc)
-  sized-by false true false o op n a b size e = (refl, cc)
+-- a whole message has a size
+sized-by : (short ok cut : Bool) (o op n a b size : ℕ) → (if short then More else (if ok then (if cut then More else Message o op n) else Bad)) ≡ Message a b size → (ok ≡ true) × (n ≡ size)
+sized-by true ok cut o op n a b size e = absurd (cc)
+sized-by false false cut o op n a b size e = absurd (cc)
+sized-by false true true o op n a b size e = absurd (cc)
+sized-by false true false o op n a b size e = (refl, cc)
 
-  is_size-some : (n : ℕ) → is_size n ≡ true → 1 ≤ n
-  is_size-some n e = grind (arith, nat_tests)
+is_size-some : (n : ℕ) → is_size n ≡ true → 1 ≤ n
+is_size-some n e = grind (arith, nat_tests)
 
-  split-some : (r : List ℕ) (a b size : ℕ) → split_of r ≡ Message a b size → 1 ≤ size
-  split-some r a b size e =
-      let h = sized-by (nat_lt (length r) 8) (is_size (word_of 4 r / 65536)) (nat_lt (length r) (word_of 4 r / 65536)) (word_of 0 r) (word_of 4 r % 65536) (word_of 4 r / 65536) a b size e in
-      subst (λ (n : ℕ). 1 ≤ n) h.1 (is_size-some (word_of 4 r / 65536) h.0)
+split-some : (r : List ℕ) (a b size : ℕ) → split_of r ≡ Message a b size → 1 ≤ size
+split-some r a b size e =
+    let h = sized-by (nat_lt (length r) 8) (is_size (word_of 4 r / 65536)) (nat_lt (length r) (word_of 4 r / 65536)) (word_of 0 r) (word_of 4 r % 65536) (word_of 4 r / 65536) a b size e in
+    subst (λ (n : ℕ). 1 ≤ n) h.1 (is_size-some (word_of 4 r / 65536) h.0)
 
-  taken-within : (n c : ℕ) (s : Split) (r : Resident) (d : Desktop) → client_at c d ≡ Some r → r.peer.status ≡ None → split_of r.peer.rest ≡ s → (split_of r.peer.rest ≡ More)
-      ⊎ (length r.peer.rest ≤ suc n) → IsWithin n c (taken out s c r d)
-  taken-within n c More r d e alive split h =
-      subst (λ (o : Option Resident). IsWithinAt n o) (sym e) (subst (λ (s : Option Cause). IsWithinBy n s r.peer.rest) (sym alive) (inl split))
-  taken-within n c Bad r d e alive split h = short-within n c [] (became c r (refused (display_error InvalidMethod) r.peer) d) (omega arith) (refused-leaves [] (display_error InvalidMethod) c r d r e)
-  taken-within n c (Message object opcode size) r d e alive split (inl more) = absurd (cc)
-  taken-within n c (Message object opcode size) r d e alive split (inr short) =
-      let some : 1 ≤ size = split-some r.peer.rest object opcode size split in
-      let less : length (drop size r.peer.rest) ≤ n = omega (arith, length-drop size r.peer.rest) in
-      let left : LeavesBy (drop size r.peer.rest) r.peer.status (drop size r.peer.rest) = subst (λ (s : Option Cause). LeavesBy (drop size r.peer.rest) s (drop size r.peer.rest)) (sym alive) refl in
-      let judged : Result Demand Refusal = judge_all out r object opcode (take (size - 8) (drop 8 r.peer.rest)) in
-      let next : Resident = with_peer (with_rest (drop size r.peer.rest) r.peer) r in
-      short-within n c (drop size r.peer.rest) (answered out judged c next d) less (answered-leaves (drop size r.peer.rest) judged c next d r e left)
+taken-within : (n c : ℕ) (s : Split) (r : Resident) (d : Desktop) → client_at c d ≡ Some r → r.peer.status ≡ None → split_of r.peer.rest ≡ s → (split_of r.peer.rest ≡ More)
+    ⊎ (length r.peer.rest ≤ suc n) → IsWithin n c (taken s c r d)
+taken-within n c More r d e alive split h =
+    subst (λ (o : Option Resident). IsWithinAt n o) (sym e) (subst (λ (s : Option Cause). IsWithinBy n s r.peer.rest) (sym alive) (inl split))
+taken-within n c Bad r d e alive split h = short-within n c [] (became c r (refused (display_error InvalidMethod) r.peer) d) (omega arith) (refused-leaves [] (display_error InvalidMethod) c r d r e)
+taken-within n c (Message object opcode size) r d e alive split (inl more) = absurd (cc)
+taken-within n c (Message object opcode size) r d e alive split (inr short) =
+    let some : 1 ≤ size = split-some r.peer.rest object opcode size split in
+    let less : length (drop size r.peer.rest) ≤ n = omega (arith, length-drop size r.peer.rest) in
+    let left : LeavesBy (drop size r.peer.rest) r.peer.status (drop size r.peer.rest) = subst (λ (s : Option Cause). LeavesBy (drop size r.peer.rest) s (drop size r.peer.rest)) (sym alive) refl in
+    let judged : Result Demand Refusal = judge_all r object opcode (take (size - 8) (drop 8 r.peer.rest)) in
+    let next : Resident = with_peer (with_rest (drop size r.peer.rest) r.peer) r in
+    short-within n c (drop size r.peer.rest) (answered judged c next d) less (answered-leaves (drop size r.peer.rest) judged c next d r e left)
 
-  served-within-by : (n c : ℕ) (s : Option Cause) (r : Resident) (d : Desktop) → client_at c d ≡ Some r → r.peer.status ≡ s → IsWithinBy (suc n) s r.peer.rest → IsWithin n c (served_by out c s r d)
-  served-within-by n c None r d e alive h = taken-within n c (split_of r.peer.rest) r d e alive refl h
-  served-within-by n c (Some cause) r d e alive h =
-      subst (λ (o : Option Resident). IsWithinAt n o) (sym e) (subst (λ (s : Option Cause). IsWithinBy n s r.peer.rest) (sym alive) tt)
+served-within-by : (n c : ℕ) (s : Option Cause) (r : Resident) (d : Desktop) → client_at c d ≡ Some r → r.peer.status ≡ s → IsWithinBy (suc n) s r.peer.rest → IsWithin n c (served_by c s r d)
+served-within-by n c None r d e alive h = taken-within n c (split_of r.peer.rest) r d e alive refl h
+served-within-by n c (Some cause) r d e alive h =
+    subst (λ (o : Option Resident). IsWithinAt n o) (sym e) (subst (λ (s : Option Cause). IsWithinBy n s r.peer.rest) (sym alive) tt)
 
-  served-within-at : (n c : ℕ) (o : Option Resident) (d : Desktop) → client_at c d ≡ o → IsWithinAt (suc n) o → IsWithin n c (served_at out c o d)
-  served-within-at n c None d e h = absurd h
-  served-within-at n c (Some r) d e h = served-within-by n c r.peer.status r d e refl h
+served-within-at : (n c : ℕ) (o : Option Resident) (d : Desktop) → client_at c d ≡ o → IsWithinAt (suc n) o → IsWithin n c (served_at c o d)
+served-within-at n c None d e h = absurd h
+served-within-at n c (Some r) d e h = served-within-by n c r.peer.status r d e refl h
 
-  served-within : (n c : ℕ) (d : Desktop) → IsWithin (suc n) c d → IsWithin n c (served out c d)
-  served-within n c d h = served-within-at n c (client_at c d) d refl h
+served-within : (n c : ℕ) (d : Desktop) → IsWithin (suc n) c d → IsWithin n c (served c d)
+served-within n c d h = served-within-at n c (client_at c d) d refl h
 
-  all-within : (n k c : ℕ) (d : Desktop) → IsWithin (k + n) c d → IsWithin k c (served_all out c n d)
-  all-within zero k c d h = let same : k + 0 ≡ k = omega arith in subst (λ (m : ℕ). IsWithin m c d) same h
-  all-within (suc n) k c d h =
-      let same : k + suc n ≡ suc k + n = omega arith in
-      served-within k c (served_all out c n d) (all-within n (suc k) c d (subst (λ (m : ℕ). IsWithin m c d) same h))
+all-within : (n k c : ℕ) (d : Desktop) → IsWithin (k + n) c d → IsWithin k c (served_all c n d)
+all-within zero k c d h = let same : k + 0 ≡ k = omega arith in subst (λ (m : ℕ). IsWithin m c d) same h
+all-within (suc n) k c d h =
+    let same : k + suc n ≡ suc k + n = omega arith in
+    served-within k c (served_all c n d) (all-within n (suc k) c d (subst (λ (m : ℕ). IsWithin m c d) same h))
 
-  -- ---- the client is there, and nothing is left to take of it
+-- ---- the client is there, and nothing is left to take of it
 
-  abbrev pub IsTaken : ℕ → Desktop → Type 0
-  IsTaken c d = (r : Resident) × (client_at c d ≡ Some r) × IsIdle r.peer
+abbrev pub IsTaken : ℕ → Desktop → Type 0
+IsTaken c d = (r : Resident) × (client_at c d ≡ Some r) × IsIdle r.peer
 
-  nothing-left : (rest : List ℕ) → (split_of rest ≡ More) ⊎ (length rest ≤ 0) → split_of rest ≡ More
-  nothing-left rest (inl more) = more
-  nothing-left [] (inr short) = refl
-  nothing-left (byte ∷ rest) (inr short) = absurd (omega arith)
+nothing-left : (rest : List ℕ) → (split_of rest ≡ More) ⊎ (length rest ≤ 0) → split_of rest ≡ More
+nothing-left rest (inl more) = more
+nothing-left [] (inr short) = refl
+nothing-left (byte ∷ rest) (inr short) = absurd (omega arith)
 
-  idle-by : (s : Option Cause) (rest : List ℕ) → IsWithinBy 0 s rest → IsIdleAt s rest
-  idle-by None rest h = nothing-left rest h
-  idle-by (Some cause) rest h = tt
+idle-by : (s : Option Cause) (rest : List ℕ) → IsWithinBy 0 s rest → IsIdleAt s rest
+idle-by None rest h = nothing-left rest h
+idle-by (Some cause) rest h = tt
 
-  taken-at : (c : ℕ) (o : Option Resident) (d : Desktop) → client_at c d ≡ o → IsWithinAt 0 o → IsTaken c d
-  taken-at c None d e h = absurd h
-  taken-at c (Some r) d e h = (r, e, idle-by r.peer.status r.peer.rest h)
+taken-at : (c : ℕ) (o : Option Resident) (d : Desktop) → client_at c d ≡ o → IsWithinAt 0 o → IsTaken c d
+taken-at c None d e h = absurd h
+taken-at c (Some r) d e h = (r, e, idle-by r.peer.status r.peer.rest h)
 
-  -- as many messages as there are bytes are all of them
-  pub all-taken : (c : ℕ) (r there : Resident) (d : Desktop) → client_at c d ≡ Some there → r.peer.status ≡ None → IsTaken c (served_all out c (length r.peer.rest) (with_client c (Some r) d))
-  all-taken c r there d e alive =
-      let come : Desktop = with_client c (Some r) d in
-      let enough : length r.peer.rest ≤ length r.peer.rest = omega arith in
-      let within : IsWithin (length r.peer.rest) c come =
-      subst (λ (o : Option Resident). IsWithinAt (length r.peer.rest) o) (sym (number-same d.clients c (Some r) there e))
-      (subst (λ (s : Option Cause). IsWithinBy (length r.peer.rest) s r.peer.rest) (sym alive) (inr enough)) in
-      let same : length r.peer.rest ≡ 0 + length r.peer.rest = omega arith in
-      let end : IsWithin 0 c (served_all out c (length r.peer.rest) come) = all-within (length r.peer.rest) 0 c come (subst (λ (n : ℕ). IsWithin n c come) same within) in
-      taken-at c (client_at c (served_all out c (length r.peer.rest) come)) (served_all out c (length r.peer.rest) come) refl end
+-- as many messages as there are bytes are all of them
+pub all-taken : (c : ℕ) (r there : Resident) (d : Desktop) → client_at c d ≡ Some there → r.peer.status ≡ None → IsTaken c (served_all c (length r.peer.rest) (with_client c (Some r) d))
+all-taken c r there d e alive =
+    let come : Desktop = with_client c (Some r) d in
+    let enough : length r.peer.rest ≤ length r.peer.rest = omega arith in
+    let within : IsWithin (length r.peer.rest) c come =
+    subst (λ (o : Option Resident). IsWithinAt (length r.peer.rest) o) (sym (number-same d.clients c (Some r) there e))
+    (subst (λ (s : Option Cause). IsWithinBy (length r.peer.rest) s r.peer.rest) (sym alive) (inr enough)) in
+    let same : length r.peer.rest ≡ 0 + length r.peer.rest = omega arith in
+    let end : IsWithin 0 c (served_all c (length r.peer.rest) come) = all-within (length r.peer.rest) 0 c come (subst (λ (n : ℕ). IsWithin n c come) same within) in
+    taken-at c (client_at c (served_all c (length r.peer.rest) come)) (served_all c (length r.peer.rest) come) refl end

@@ -10,14 +10,13 @@ use Rattle.spec_desktop.specs.declared.refusals.ErrorCode.TheVariants.{InvalidMe
 use Rattle.spec_desktop.specs.declared.refusals.Refusal.{Refusal}
 use Rattle.spec_desktop.specs.Peer.{Errs, Peer, QueuesOr, counted, ended, has_room, queued, sent_by, stored_at, with_rest}
 use Rattle.wl_store.specs.Stores.{write_refusal}
-use Rattle.spec_desktop.specs.Plain.{or_slow as refused_or, refused}
 use Rattle.spec_desktop.specs.Told.{Said, code_number, display_error, error_told}
 use Rattle.spec_desktop.specs.Pointer.{is_down, is_press}
 use Rattle.spec_desktop.specs.PointerActions.{PointerAction, PointerInput, actions}
 use Rattle.spec_desktop.specs.PointerActions as pointer
 use Rattle.spec_desktop.specs.Windows.{Place, Window}
 use Rattle.law_desktop.specs.Ample.{acts, answered, applied, applied_all, became, buttons, changes_at, connects_at, done, ends_and_settles, ends_first, fed_at, fed_by, frames_to, happened}
-use Rattle.law_desktop.specs.Ample.{held_so, left_at, left_by, moved_to, or_slow, pressed_if, queued_to, released_if, served_all, served_at, served_by}
+use Rattle.law_desktop.specs.Ample.{held_so, left_at, left_by, moved_to, or_slow, pressed_if, queued_to, refused, refused_or, released_if, served_all, served_at, served_by}
 use Rattle.law_desktop.specs.Ample.{settles, settles_all, settles_ends, shown, taken, tells, tells_at, tells_unless}
 use Rattle.spec_desktop.specs.declared.answers.ConnectError.TheVariants.{Full}
 use Rattle.spec_desktop.specs.declared.answers.Done.{Done}
@@ -28,7 +27,6 @@ use Rattle.spec_desktop.specs.Changing.{changed_for, grab_holder}
 use Rattle.spec_desktop.specs.Demand.{Demand}
 use Rattle.spec_desktop.specs.Demanding.{judge_all}
 use Rattle.spec_desktop.specs.Desktop.{Desktop, Resident, client_at, with_client, status_in}
-use Rattle.spec_desktop.specs.LeftOut.{LeftOut}
 use Rattle.spec_desktop.specs.Pointing.{entered_surface, left_surface}
 use Rattle.spec_desktop.specs.Replies.{focus_window, replies}
 use Rattle.spec_desktop.specs.Settling.{Applies, AppliesAll, EndsAndSettles, EndsFirst, Midstep, PointerActs, QueuesFirst, QueuesTo, Settles, SettlesAll, SettlesEnds, Strike, Tells, TellsAt, TellsUnless}
@@ -117,160 +115,159 @@ errs refusal p = errs-first (has_room p.unsent (error_told refusal)) refusal p
 becomes-so : (refusal : Refusal) (c : ℕ) (r : Resident) (d : Desktop) → Becomes (Errs refusal r.peer) c r d (became c r (refused refusal r.peer) d)
 becomes-so refusal c r d = (refused refusal r.peer, errs refusal r.peer, ends-and-settles (unstruck (becomes c r (refused refusal r.peer) d)))
 
-module _ (out : LeftOut) where
-  does-so : (c : ℕ) (demand : Demand) (r : Resident) (d : Desktop) → Does out c demand r d (done out c demand r d)
-  does-so c demand r d =
-      let old : Resident = changed_for c demand r d in
-      let told : Peer × Option Cause = queued_to (replies out c demand r old (all_windows d) d) old.peer in (
-        told.0,
-        told.1,
-        queues (replies out c demand r old (all_windows d) d) old.peer,
-        ends-and-settles (unstruck (after_why told.1 c (with_client c (Some (with_peer told.0 old)) (done_for c demand r d)))),
-      )
+does-so : (c : ℕ) (demand : Demand) (r : Resident) (d : Desktop) → Does c demand r d (done c demand r d)
+does-so c demand r d =
+    let old : Resident = changed_for c demand r d in
+    let told : Peer × Option Cause = queued_to (replies c demand r old (all_windows d) d) old.peer in (
+      told.0,
+      told.1,
+      queues (replies c demand r old (all_windows d) d) old.peer,
+      ends-and-settles (unstruck (after_why told.1 c (with_client c (Some (with_peer told.0 old)) (done_for c demand r d)))),
+    )
 
-  wants-so : (b : Bool) (Later : Type 0) (c : ℕ) (r : Resident) (d new : Desktop) → Later → WantsOr b Later c r d new
-  wants-so false Later c r d new h = h
-  wants-so true Later c r d new h = inr h
+wants-so : (b : Bool) (Later : Type 0) (c : ℕ) (r : Resident) (d new : Desktop) → Later → WantsOr b Later c r d new
+wants-so false Later c r d new h = h
+wants-so true Later c r d new h = inr h
 
-  answers-so : (judged : Result Demand Refusal) (c : ℕ) (r : Resident) (d : Desktop) → Answers out judged c r d (answered out judged c r d)
-  answers-so (Ok demand) c r d =
-      wants-so (wants_memory demand) (Does out c demand (with_peer (counted r.peer) r) d (done out c demand (with_peer (counted r.peer) r) d)) c (with_peer (counted r.peer) r) d
-      (done out c demand (with_peer (counted r.peer) r) d) (does-so c demand (with_peer (counted r.peer) r) d)
-  answers-so (Err refusal) c r d = becomes-so refusal c r d
+answers-so : (judged : Result Demand Refusal) (c : ℕ) (r : Resident) (d : Desktop) → Answers judged c r d (answered judged c r d)
+answers-so (Ok demand) c r d =
+    wants-so (wants_memory demand) (Does c demand (with_peer (counted r.peer) r) d (done c demand (with_peer (counted r.peer) r) d)) c (with_peer (counted r.peer) r) d
+    (done c demand (with_peer (counted r.peer) r) d) (does-so c demand (with_peer (counted r.peer) r) d)
+answers-so (Err refusal) c r d = becomes-so refusal c r d
 
-  -- a message that is there is taken, or the client is done
-  extended : (c n k : ℕ) (d mid : Desktop) (r : Resident) (s : Split) → Reaches out c k d mid → client_at c mid ≡ Some r → r.peer.status ≡ None → split_of r.peer.rest ≡ s → (j : ℕ)
-      × Reaches out c j d (taken out s c r mid)
-  extended c n k d mid r (Message object opcode size) h e alive split = (
-    suc k,
-    (
-      mid,
-      h,
-      subst (λ (o : Option Resident). ServesAt out c o mid (taken out (Message object opcode size) c r mid)) (sym e) (
-        alive,
-        subst (λ (s : Split). Takes out s c r mid (taken out (Message object opcode size) c r mid)) (sym split)
-            (answers-so (judge_all out r object opcode (take (size - 8) (drop 8 r.peer.rest))) c (with_peer (with_rest (drop size r.peer.rest) r.peer) r) mid),
-      ),
+-- a message that is there is taken, or the client is done
+extended : (c n k : ℕ) (d mid : Desktop) (r : Resident) (s : Split) → Reaches c k d mid → client_at c mid ≡ Some r → r.peer.status ≡ None → split_of r.peer.rest ≡ s → (j : ℕ)
+    × Reaches c j d (taken s c r mid)
+extended c n k d mid r (Message object opcode size) h e alive split = (
+  suc k,
+  (
+    mid,
+    h,
+    subst (λ (o : Option Resident). ServesAt c o mid (taken (Message object opcode size) c r mid)) (sym e) (
+      alive,
+      subst (λ (s : Split). Takes s c r mid (taken (Message object opcode size) c r mid)) (sym split)
+          (answers-so (judge_all r object opcode (take (size - 8) (drop 8 r.peer.rest))) c (with_peer (with_rest (drop size r.peer.rest) r.peer) r) mid),
     ),
-  )
-  extended c n k d mid r Bad h e alive split = (
-    suc k,
-    (
-      mid,
-      h,
-      subst (λ (o : Option Resident). ServesAt out c o mid (taken out Bad c r mid)) (sym e)
-          (alive, subst (λ (s : Split). Takes out s c r mid (taken out Bad c r mid)) (sym split) (becomes-so (display_error InvalidMethod) c r mid)),
-    ),
-  )
-  extended c n k d mid r More h e alive split = (k, h)
+  ),
+)
+extended c n k d mid r Bad h e alive split = (
+  suc k,
+  (
+    mid,
+    h,
+    subst (λ (o : Option Resident). ServesAt c o mid (taken Bad c r mid)) (sym e)
+        (alive, subst (λ (s : Split). Takes s c r mid (taken Bad c r mid)) (sym split) (becomes-so (display_error InvalidMethod) c r mid)),
+  ),
+)
+extended c n k d mid r More h e alive split = (k, h)
 
-  reached-by : (c n k : ℕ) (d mid : Desktop) (r : Resident) (s : Option Cause) → Reaches out c k d mid → client_at c mid ≡ Some r → r.peer.status ≡ s → (j : ℕ)
-      × Reaches out c j d (served_by out c s r mid)
-  reached-by c n k d mid r None h e alive = extended c n k d mid r (split_of r.peer.rest) h e alive refl
-  reached-by c n k d mid r (Some cause) h e alive = (k, h)
+reached-by : (c n k : ℕ) (d mid : Desktop) (r : Resident) (s : Option Cause) → Reaches c k d mid → client_at c mid ≡ Some r → r.peer.status ≡ s → (j : ℕ)
+    × Reaches c j d (served_by c s r mid)
+reached-by c n k d mid r None h e alive = extended c n k d mid r (split_of r.peer.rest) h e alive refl
+reached-by c n k d mid r (Some cause) h e alive = (k, h)
 
-  reached-at : (c n k : ℕ) (d mid : Desktop) (o : Option Resident) → Reaches out c k d mid → client_at c mid ≡ o → (j : ℕ) × Reaches out c j d (served_at out c o mid)
-  reached-at c n k d mid None h e = (k, h)
-  reached-at c n k d mid (Some r) h e = reached-by c n k d mid r r.peer.status h e refl
+reached-at : (c n k : ℕ) (d mid : Desktop) (o : Option Resident) → Reaches c k d mid → client_at c mid ≡ o → (j : ℕ) × Reaches c j d (served_at c o mid)
+reached-at c n k d mid None h e = (k, h)
+reached-at c n k d mid (Some r) h e = reached-by c n k d mid r r.peer.status h e refl
 
-  reached : (c n : ℕ) (d : Desktop) → (k : ℕ) × Reaches out c k d (served_all out c n d)
-  reached c zero d = (zero, refl)
-  reached c (suc n) d = let before = reached c n d in reached-at c n before.0 d (served_all out c n d) (client_at c (served_all out c n d)) before.1 refl
+reached : (c n : ℕ) (d : Desktop) → (k : ℕ) × Reaches c k d (served_all c n d)
+reached c zero d = (zero, refl)
+reached c (suc n) d = let before = reached c n d in reached-at c n before.0 d (served_all c n d) (client_at c (served_all c n d)) before.1 refl
 
-  -- ---- a piece
+-- ---- a piece
 
-  stops-so : (c : ℕ) (d : Desktop) → IsTaken out c d → StopsAt c (client_at c d) d d
-  stops-so c d taken = subst (λ (o : Option Resident). StopsAt c o d d) (sym taken.1) (inl (refl, taken.2))
+stops-so : (c : ℕ) (d : Desktop) → IsTaken c d → StopsAt c (client_at c d) d d
+stops-so c d taken = subst (λ (o : Option Resident). StopsAt c o d d) (sym taken.1) (inl (refl, taken.2))
 
-  feeds-so : (c : ℕ) (piece : List ℕ) (s : Option Cause) (r : Resident) (d : Desktop) → client_at c d ≡ Some r → r.peer.status ≡ s → FeedsAt out c piece s r d (fed_by out c piece s r d)
-  feeds-so c piece (Some cause) r d e alive = refl
-  feeds-so c piece None r d e alive =
-      let more : Resident = with_peer (with_rest (r.peer.rest ++ piece) r.peer) r in
-      let end : Desktop = served_all out c (length more.peer.rest) (with_client c (Some more) d) in
-      let runs = reached c (length more.peer.rest) (with_client c (Some more) d) in
-      (runs.0, end, runs.1, stops-so c end (all-taken out c more r d e alive))
+feeds-so : (c : ℕ) (piece : List ℕ) (s : Option Cause) (r : Resident) (d : Desktop) → client_at c d ≡ Some r → r.peer.status ≡ s → FeedsAt c piece s r d (fed_by c piece s r d)
+feeds-so c piece (Some cause) r d e alive = refl
+feeds-so c piece None r d e alive =
+    let more : Resident = with_peer (with_rest (r.peer.rest ++ piece) r.peer) r in
+    let end : Desktop = served_all c (length more.peer.rest) (with_client c (Some more) d) in
+    let runs = reached c (length more.peer.rest) (with_client c (Some more) d) in
+    (runs.0, end, runs.1, stops-so c end (all-taken c more r d e alive))
 
-  fed-so : (c : ℕ) (piece : List ℕ) (o : Option Resident) (d : Desktop) → client_at c d ≡ o → (done : Done) × IsFedAt out c piece o d done (fed_at out c piece o d)
-  fed-so c piece None d e = (gave.Feed NoClient, (refl, refl))
-  fed-so c piece (Some r) d e =
-      (gave.Feed (fed_of (status_in c (fed_by out c piece r.peer.status r d))), (feeds-so c piece r.peer.status r d e refl, refl))
+fed-so : (c : ℕ) (piece : List ℕ) (o : Option Resident) (d : Desktop) → client_at c d ≡ o → (done : Done) × IsFedAt c piece o d done (fed_at c piece o d)
+fed-so c piece None d e = (gave.Feed NoClient, (refl, refl))
+fed-so c piece (Some r) d e =
+    (gave.Feed (fed_of (status_in c (fed_by c piece r.peer.status r d))), (feeds-so c piece r.peer.status r d e refl, refl))
 
-  -- ---- the other steps
+-- ---- the other steps
 
-  connects-so : (o : Option ℕ) (d : Desktop) → (done : Done) × ConnectsAt o d done (connects_at o d)
-  connects-so None d = (gave.Connect (Err Full), (refl, refl))
-  connects-so (Some k) d = (gave.Connect (Ok (k + 1)), inr (refl, refl))
+connects-so : (o : Option ℕ) (d : Desktop) → (done : Done) × ConnectsAt o d done (connects_at o d)
+connects-so None d = (gave.Connect (Err Full), (refl, refl))
+connects-so (Some k) d = (gave.Connect (Ok (k + 1)), inr (refl, refl))
 
-  changes-by : (R : Peer → Done → Option Peer → Type 0) (absent done : Done) (c : ℕ) (r : Resident) (q : Option Peer) (d : Desktop) → R r.peer done q
-      → ChangesAt R absent c (Some r) d done (held_so c r q d)
-  changes-by R absent done c r None d h = (None, h, refl)
-  changes-by R absent done c r (Some q) d h = (Some q, h, refl)
+changes-by : (R : Peer → Done → Option Peer → Type 0) (absent done : Done) (c : ℕ) (r : Resident) (q : Option Peer) (d : Desktop) → R r.peer done q
+    → ChangesAt R absent c (Some r) d done (held_so c r q d)
+changes-by R absent done c r None d h = (None, h, refl)
+changes-by R absent done c r (Some q) d h = (Some q, h, refl)
 
-  changes-so : (R : Peer → Done → Option Peer → Type 0) (absent : Done) (answer : Peer → Done) (change : Peer → Option Peer) → ((p : Peer) → R p (answer p) (change p))
-      → (c : ℕ) (o : Option Resident) (d : Desktop) → (done : Done) × ChangesAt R absent c o d done (changes_at change c o d)
-  changes-so R absent answer change so c None d = (absent, (refl, refl))
-  changes-so R absent answer change so c (Some r) d = (answer r.peer, changes-by R absent (answer r.peer) c r (change r.peer) d (so r.peer))
+changes-so : (R : Peer → Done → Option Peer → Type 0) (absent : Done) (answer : Peer → Done) (change : Peer → Option Peer) → ((p : Peer) → R p (answer p) (change p))
+    → (c : ℕ) (o : Option Resident) (d : Desktop) → (done : Done) × ChangesAt R absent c o d done (changes_at change c o d)
+changes-so R absent answer change so c None d = (absent, (refl, refl))
+changes-so R absent answer change so c (Some r) d = (answer r.peer, changes-by R absent (answer r.peer) c r (change r.peer) d (so r.peer))
 
-  left-by : (c : ℕ) (r : Resident) (s : Option Cause) (d : Desktop) → r.peer.status ≡ s → LeavesAt c (Some r) d (gave.Gone (is_none r.peer.status)) (left_by c r.peer.status r d)
-  left-by c r None d e = (refl, rw e (ends-and-settles (unstruck (becomes c r (ended cause.Gone r.peer) d))))
-  left-by c r (Some why) d e = (refl, rw e refl)
+left-by : (c : ℕ) (r : Resident) (s : Option Cause) (d : Desktop) → r.peer.status ≡ s → LeavesAt c (Some r) d (gave.Gone (is_none r.peer.status)) (left_by c r.peer.status r d)
+left-by c r None d e = (refl, rw e (ends-and-settles (unstruck (becomes c r (ended cause.Gone r.peer) d))))
+left-by c r (Some why) d e = (refl, rw e refl)
 
-  left-so : (c : ℕ) (o : Option Resident) (d : Desktop) → (done : Done) × LeavesAt c o d done (left_at c o d)
-  left-so c None d = (gave.Gone false, (refl, refl))
-  left-so c (Some r) d = (gave.Gone (is_none r.peer.status), left-by c r r.peer.status d refl)
+left-so : (c : ℕ) (o : Option Resident) (d : Desktop) → (done : Done) × LeavesAt c o d done (left_at c o d)
+left-so c None d = (gave.Gone false, (refl, refl))
+left-so c (Some r) d = (gave.Gone (is_none r.peer.status), left-by c r r.peer.status d refl)
 
-  frames-so : (time n k : ℕ) (d : Desktop) → TellsFrames time n (suc k) (frames_to time k (unstruck d)) (frames_to time (k + n) (unstruck d))
-  frames-so time zero k d = let same : k + 0 ≡ k = omega arith in ap (λ (n : ℕ). frames_to time n (unstruck d)) same
-  frames-so time (suc n) k d =
-      let same : suc k + n ≡ k + suc n = omega arith in (
-        frames_to time (suc k) (unstruck d),
-        tells-so _ _ (suc k) (frames_to time k (unstruck d)),
-        subst (λ (all : ℕ). TellsFrames time n (suc (suc k)) (frames_to time (suc k) (unstruck d)) (frames_to time all (unstruck d))) same (frames-so time n (suc k) d),
-      )
+frames-so : (time n k : ℕ) (d : Desktop) → TellsFrames time n (suc k) (frames_to time k (unstruck d)) (frames_to time (k + n) (unstruck d))
+frames-so time zero k d = let same : k + 0 ≡ k = omega arith in ap (λ (n : ℕ). frames_to time n (unstruck d)) same
+frames-so time (suc n) k d =
+    let same : suc k + n ≡ k + suc n = omega arith in (
+      frames_to time (suc k) (unstruck d),
+      tells-so _ _ (suc k) (frames_to time k (unstruck d)),
+      subst (λ (all : ℕ). TellsFrames time n (suc (suc k)) (frames_to time (suc k) (unstruck d)) (frames_to time all (unstruck d))) same (frames-so time n (suc k) d),
+    )
 
-  shows-so : (time : ℕ) (d : Desktop) → Shows time d (shown time d)
-  shows-so time d = (frames_to time 32 (unstruck d), frames-so time 32 0 d, ends-and-settles (frames_to time 32 (unstruck d)))
+shows-so : (time : ℕ) (d : Desktop) → Shows time d (shown time d)
+shows-so time d = (frames_to time 32 (unstruck d), frames-so time 32 0 d, ends-and-settles (frames_to time 32 (unstruck d)))
 
-  -- ---- the pointer
+-- ---- the pointer
 
-  moves-so : (time : ℕ) (at : Place) (d : Desktop) → MovesTo time at d (moved_to time at d)
-  moves-so time at d =
-      let gone : Midstep = acts (pointer.GoTo at) (unstruck d) in
-      let told : Midstep = acts (pointer.Went time) (placed at gone) in
-      (gone, acts-so (pointer.GoTo at) (unstruck d), told, acts-so (pointer.Went time) (placed at gone), settles-ends told)
+moves-so : (time : ℕ) (at : Place) (d : Desktop) → MovesTo time at d (moved_to time at d)
+moves-so time at d =
+    let gone : Midstep = acts (pointer.GoTo at) (unstruck d) in
+    let told : Midstep = acts (pointer.Went time) (placed at gone) in
+    (gone, acts-so (pointer.GoTo at) (unstruck d), told, acts-so (pointer.Went time) (placed at gone), settles-ends told)
 
-  pressed-so : (b : Bool) (time button : ℕ) (d : Desktop) → PressesIf b time button d (pressed_if b time button d)
-  pressed-so false time button d = refl
-  pressed-so true time button d =
-      let input : PointerInput = pointer.Press time button (grab_holder d) in
-      let told : Midstep = acts input (unstruck (with_press button d)) in
-      (told, acts-so input (unstruck (with_press button d)), settles told, settles-so told, settles-ends (settles told))
+pressed-so : (b : Bool) (time button : ℕ) (d : Desktop) → PressesIf b time button d (pressed_if b time button d)
+pressed-so false time button d = refl
+pressed-so true time button d =
+    let input : PointerInput = pointer.Press time button (grab_holder d) in
+    let told : Midstep = acts input (unstruck (with_press button d)) in
+    (told, acts-so input (unstruck (with_press button d)), settles told, settles-so told, settles-ends (settles told))
 
-  released-so : (b : Bool) (time button : ℕ) (d : Desktop) → ReleasesIf b time button d (released_if b time button d)
-  released-so false time button d = refl
-  released-so true time button d =
-      let input : PointerInput = pointer.Release time button in
-      let told : Midstep = acts input (unstruck (with_release button d)) in
-      (told, acts-so input (unstruck (with_release button d)), settles told, settles-so told, settles-ends (settles told))
+released-so : (b : Bool) (time button : ℕ) (d : Desktop) → ReleasesIf b time button d (released_if b time button d)
+released-so false time button d = refl
+released-so true time button d =
+    let input : PointerInput = pointer.Release time button in
+    let told : Midstep = acts input (unstruck (with_release button d)) in
+    (told, acts-so input (unstruck (with_release button d)), settles told, settles-so told, settles-ends (settles told))
 
-  buttons-so : (pressed : Bool) (time button : ℕ) (d : Desktop) → Buttons pressed time button d (buttons pressed time button d)
-  buttons-so true time button d = pressed-so (is_press button d.pointer.buttons) time button d
-  buttons-so false time button d = released-so (is_down button d.pointer.buttons) time button d
+buttons-so : (pressed : Bool) (time button : ℕ) (d : Desktop) → Buttons pressed time button d (buttons pressed time button d)
+buttons-so true time button d = pressed-so (is_press button d.pointer.buttons) time button d
+buttons-so false time button d = released-so (is_down button d.pointer.buttons) time button d
 
-  -- ---- all of them
+-- ---- all of them
 
-  -- Whatever happens where memory is always there may happen.
-  pub happens-ample : (act : Act) (d : Desktop) → (answer : Done) × Happens out act answer d (happened out act d)
-  happens-ample Connect d = connects-so (lowest d.clients) d
-  happens-ample (Feed c piece) d = fed-so c piece (client_at c d) d refl
-  happens-ample (Store c store at bytes) d =
-      changes-so (IsStored store at bytes) (gave.Store stored.NoClient) (λ p. gave.Store (stored_of p.status (write_refusal store at (length bytes) p.stores)))
-      (λ p. Some (stored_at p.status store at bytes p)) (λ p. (refl, refl)) c (client_at c d) d
-  happens-ample (Leave c) d = left-so c (client_at c d) d
-  happens-ample (Tick time) d = (gave.Tick, (refl, shows-so time d))
-  happens-ample (Send c n) d =
-      changes-so (IsSent n) (gave.Sent false) (λ p. gave.Sent (nat_le n (length p.unsent))) (λ p. Some (sent_by n p)) (λ p. (refl, refl)) c (client_at c d) d
-  happens-ample (Close c) d =
-      changes-so IsClosed (gave.Close false) (λ p. gave.Close (is_some p.status)) (λ p. closed_by p.status p) (λ p. (refl, refl)) c (client_at c d) d
-  happens-ample (Motion time x y) d = (gave.Motion, (refl, moves-so time (point_in d.output x y) d))
-  happens-ample (Button time button pressed) d = (gave.Button, (refl, buttons-so pressed time button d))
+-- Whatever happens where memory is always there may happen.
+pub happens-ample : (act : Act) (d : Desktop) → (answer : Done) × Happens act answer d (happened act d)
+happens-ample Connect d = connects-so (lowest d.clients) d
+happens-ample (Feed c piece) d = fed-so c piece (client_at c d) d refl
+happens-ample (Store c store at bytes) d =
+    changes-so (IsStored store at bytes) (gave.Store stored.NoClient) (λ p. gave.Store (stored_of p.status (write_refusal store at (length bytes) p.stores)))
+    (λ p. Some (stored_at p.status store at bytes p)) (λ p. (refl, refl)) c (client_at c d) d
+happens-ample (Leave c) d = left-so c (client_at c d) d
+happens-ample (Tick time) d = (gave.Tick, (refl, shows-so time d))
+happens-ample (Send c n) d =
+    changes-so (IsSent n) (gave.Sent false) (λ p. gave.Sent (nat_le n (length p.unsent))) (λ p. Some (sent_by n p)) (λ p. (refl, refl)) c (client_at c d) d
+happens-ample (Close c) d =
+    changes-so IsClosed (gave.Close false) (λ p. gave.Close (is_some p.status)) (λ p. closed_by p.status p) (λ p. (refl, refl)) c (client_at c d) d
+happens-ample (Motion time x y) d = (gave.Motion, (refl, moves-so time (point_in d.output x y) d))
+happens-ample (Button time button pressed) d = (gave.Button, (refl, buttons-so pressed time button d))

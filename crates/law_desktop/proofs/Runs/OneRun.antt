@@ -8,7 +8,6 @@ use Rattle.spec_desktop.specs.declared.answers.Done.{Done}
 use Rattle.spec_desktop.specs.declared.answers.Done.TheVariants as gave
 use Rattle.spec_desktop.specs.declared.answers.Fed.TheVariants.{NoClient}
 use Rattle.spec_desktop.specs.Desktop.{Desktop, Resident, arrival, client_at, with_client, status_in}
-use Rattle.spec_desktop.specs.LeftOut.{LeftOut}
 use Rattle.spec_desktop.specs.Settling.{EndsAndSettles, becomes, unstruck}
 use Rattle.spec_desktop.specs.Step.{with_peer}
 use Rattle.spec_desktop.specs.Act.{Act, Connect, Feed, Store, Leave, Tick, Send, Close, Motion, Button, IsClosed, IsSent, IsStored, fed_of, lowest}
@@ -51,17 +50,17 @@ connects-long (Some n) d new done (inr h) = ap (λ x. length x.clients) h.1 ∙ 
 
 -- ---- a client is fed
 
-fed-once : (out : LeftOut) (c : ℕ) (piece : List ℕ) (o : Option Resident) (d new end : Desktop) (done other : Done) → client_at c d ≡ o → lasting d.clients ≤ 32 → IsFedAt out c piece o d done new
-    → IsFedAt out c piece o d other end → Spares (unstruck d) (unstruck new) → Spares (unstruck d) (unstruck end) → Same done other new end
-fed-once out c piece None d new end done other is few h k fine well =
+fed-once : (c : ℕ) (piece : List ℕ) (o : Option Resident) (d new end : Desktop) (done other : Done) → client_at c d ≡ o → lasting d.clients ≤ 32 → IsFedAt c piece o d done new
+    → IsFedAt c piece o d other end → Spares (unstruck d) (unstruck new) → Spares (unstruck d) (unstruck end) → Same done other new end
+fed-once c piece None d new end done other is few h k fine well =
     answered-once (λ new. new ≡ d) (λ new. gave.Feed NoClient) d new end done other (stays-leads d) h.1 k.1 h.0 k.0 fine well
-fed-once out c piece (Some r) d new end done other is few h k fine well =
-    answered-once (FeedsAt out c piece r.peer.status r d) (λ new. gave.Feed (fed_of (status_in c new))) d new end done other (feeds-leads out c piece r d is few) h.0 k.0 h.1 k.1 fine well
+fed-once c piece (Some r) d new end done other is few h k fine well =
+    answered-once (FeedsAt c piece r.peer.status r d) (λ new. gave.Feed (fed_of (status_in c new))) d new end done other (feeds-leads c piece r d is few) h.0 k.0 h.1 k.1 fine well
 
-pub fed-after : (out : LeftOut) (c : ℕ) (piece : List ℕ) (o : Option Resident) (d new : Desktop) (done : Done) → client_at c d ≡ o → lasting d.clients ≤ 32 → IsFedAt out c piece o d done new
+pub fed-after : (c : ℕ) (piece : List ℕ) (o : Option Resident) (d new : Desktop) (done : Done) → client_at c d ≡ o → lasting d.clients ≤ 32 → IsFedAt c piece o d done new
     → After (unstruck d) (unstruck new)
-fed-after out c piece None d new done is few h = (stays-leads d).follows new h.1
-fed-after out c piece (Some r) d new done is few h = (feeds-leads out c piece r d is few).follows new h.0
+fed-after c piece None d new done is few h = (stays-leads d).follows new h.1
+fed-after c piece (Some r) d new done is few h = (feeds-leads c piece r d is few).follows new h.0
 
 -- ---- a client goes
 
@@ -152,28 +151,28 @@ motion-leads time x y d short = moves-leads time (point_in d.output x y) d (few-
 
 pub one_run : OneRun
 unfolding Same
-one_run out Connect done other d new end short h k fine well = connects-once (lowest d.clients) d new end done other h k fine well
-one_run out (Feed c piece) done other d new end short h k fine well = fed-once out c piece (client_at c d) d new end done other refl (few-of d short) h k fine.1 well.1
-one_run out (Store c store at bytes) done other d new end short h k fine well =
+one_run Connect done other d new end short h k fine well = connects-once (lowest d.clients) d new end done other h k fine well
+one_run (Feed c piece) done other d new end short h k fine well = fed-once c piece (client_at c d) d new end done other refl (few-of d short) h k fine.1 well.1
+one_run (Store c store at bytes) done other d new end short h k fine well =
     changes-once (IsStored store at bytes) (stored_once store at bytes) _ done other c (client_at c d) d new end h k
-one_run out (Leave c) done other d new end short h k fine well = leaves-once c (client_at c d) d new end done other refl (few-of d short) h k fine.1 well.1
-one_run out (Tick time) done other d new end short h k fine well =
+one_run (Leave c) done other d new end short h k fine well = leaves-once c (client_at c d) d new end done other refl (few-of d short) h k fine.1 well.1
+one_run (Tick time) done other d new end short h k fine well =
     answered-once (Shows time d) (λ new. gave.Tick) d new end done other (shows-leads time d (few-of d short)) h.1 k.1 h.0 k.0 fine.1 well.1
-one_run out (Send c n) done other d new end short h k fine well = changes-once (IsSent n) (sent_once n) _ done other c (client_at c d) d new end h k
-one_run out (Close c) done other d new end short h k fine well = changes-once IsClosed closed_once _ done other c (client_at c d) d new end h k
-one_run out (Motion time x y) done other d new end short h k fine well =
+one_run (Send c n) done other d new end short h k fine well = changes-once (IsSent n) (sent_once n) _ done other c (client_at c d) d new end h k
+one_run (Close c) done other d new end short h k fine well = changes-once IsClosed closed_once _ done other c (client_at c d) d new end h k
+one_run (Motion time x y) done other d new end short h k fine well =
     answered-once (MovesTo time (point_in d.output x y) d) (λ new. gave.Motion) d new end done other (motion-leads time x y d short) h.1 k.1 h.0 k.0 fine.1 well.1
-one_run out (Button time button pressed) done other d new end short h k fine well =
+one_run (Button time button pressed) done other d new end short h k fine well =
     answered-once (Buttons pressed time button d) (λ new. gave.Button) d new end done other (buttons-leads pressed time button d (few-of d short)) h.1 k.1 h.0 k.0 fine.1 well.1
 
 -- there are as many numbers as before
-pub happens-long : (out : LeftOut) (act : Act) (done : Done) (d new : Desktop) → length d.clients ≤ 32 → Happens out act done d new → length new.clients ≡ length d.clients
-happens-long out Connect done d new short h = connects-long (lowest d.clients) d new done h
-happens-long out (Feed c piece) done d new short h = (fed-after out c piece (client_at c d) d new done refl (few-of d short) h).long
-happens-long out (Store c store at bytes) done d new short h = changes-long (IsStored store at bytes) _ done c (client_at c d) d new h
-happens-long out (Leave c) done d new short h = (leaves-after c (client_at c d) d new done refl (few-of d short) h).long
-happens-long out (Tick time) done d new short h = ((shows-leads time d (few-of d short)).follows new h.1).long
-happens-long out (Send c n) done d new short h = changes-long (IsSent n) _ done c (client_at c d) d new h
-happens-long out (Close c) done d new short h = changes-long IsClosed _ done c (client_at c d) d new h
-happens-long out (Motion time x y) done d new short h = ((motion-leads time x y d short).follows new h.1).long
-happens-long out (Button time button pressed) done d new short h = ((buttons-leads pressed time button d (few-of d short)).follows new h.1).long
+pub happens-long : (act : Act) (done : Done) (d new : Desktop) → length d.clients ≤ 32 → Happens act done d new → length new.clients ≡ length d.clients
+happens-long Connect done d new short h = connects-long (lowest d.clients) d new done h
+happens-long (Feed c piece) done d new short h = (fed-after c piece (client_at c d) d new done refl (few-of d short) h).long
+happens-long (Store c store at bytes) done d new short h = changes-long (IsStored store at bytes) _ done c (client_at c d) d new h
+happens-long (Leave c) done d new short h = (leaves-after c (client_at c d) d new done refl (few-of d short) h).long
+happens-long (Tick time) done d new short h = ((shows-leads time d (few-of d short)).follows new h.1).long
+happens-long (Send c n) done d new short h = changes-long (IsSent n) _ done c (client_at c d) d new h
+happens-long (Close c) done d new short h = changes-long IsClosed _ done c (client_at c d) d new h
+happens-long (Motion time x y) done d new short h = ((motion-leads time x y d short).follows new h.1).long
+happens-long (Button time button pressed) done d new short h = ((buttons-leads pressed time button d (few-of d short)).follows new h.1).long

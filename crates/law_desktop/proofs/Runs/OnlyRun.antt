@@ -4,14 +4,14 @@ use Rattle.law_desktop.specs.RunLaws.{HadMemoryAll, Lasts, OnlyRun}
 use Rattle.law_desktop.proofs.Runs.OneRun.{happens-long, one_run}
 
 pub only_run : OnlyRun
-only_run out [] [] [] old new end short run other fine well = (refl, run ∙ sym other)
-only_run out [] [] (done ∷ dones) old new end short run other fine well = absurd other
-only_run out [] (done ∷ dones) others old new end short run other fine well = absurd run
-only_run out (act ∷ acts) [] others old new end short run other fine well = absurd run
-only_run out (act ∷ acts) (done ∷ dones) [] old new end short run other fine well = absurd other
-only_run out (act ∷ acts) (done ∷ dones) (done' ∷ dones') old new end short (mid, step, run) (mid', step', run') fine well =
-    let first = one_run out act done done' old mid mid' short step step' fine.0 well.0 in
-    let moved : (again : Lasts out acts dones mid' new) × HadMemoryAll out acts dones mid' new again =
-    subst (λ d. (again : Lasts out acts dones d new) × HadMemoryAll out acts dones d new again) first.1 (run, fine.1) in
-    let later = only_run out acts dones dones' mid' new end (omega (arith, short, happens-long out act done' old mid' short step')) moved.0 run' moved.1 well.1 in
+only_run [] [] [] old new end short run other fine well = (refl, run ∙ sym other)
+only_run [] [] (done ∷ dones) old new end short run other fine well = absurd other
+only_run [] (done ∷ dones) others old new end short run other fine well = absurd run
+only_run (act ∷ acts) [] others old new end short run other fine well = absurd run
+only_run (act ∷ acts) (done ∷ dones) [] old new end short run other fine well = absurd other
+only_run (act ∷ acts) (done ∷ dones) (done' ∷ dones') old new end short (mid, step, run) (mid', step', run') fine well =
+    let first = one_run act done done' old mid mid' short step step' fine.0 well.0 in
+    let moved : (again : Lasts acts dones mid' new) × HadMemoryAll acts dones mid' new again =
+    subst (λ d. (again : Lasts acts dones d new) × HadMemoryAll acts dones d new again) first.1 (run, fine.1) in
+    let later = only_run acts dones dones' mid' new end (omega (arith, short, happens-long act done' old mid' short step')) moved.0 run' moved.1 well.1 in
     (ap (λ d. d ∷ dones) first.0 ∙ ap (λ ds. done' ∷ ds) later.0, later.1)

@@ -10,18 +10,16 @@ use Rattle.spec_desktop.specs.declared.refusals.Refusal.{Refusal}
 use Rattle.spec_desktop.specs.Peer.{Peer, LacksMemory, counted, ended}
 use Rattle.spec_desktop.specs.Told.{Said}
 use Rattle.wl_shell.specs.Popups.{is_toplevel}
-use Rattle.wl_shell.specs.Shell.{Effect, Stays, Unconfigured, Configures, Maps, Unmaps, xdg_of}
+use Rattle.wl_shell.specs.Shell.{Effect, Maps, Unmaps, xdg_of}
 use Rattle.spec_desktop.specs.Pointer.{is_down, is_press}
 use Rattle.spec_desktop.specs.PointerActions.{PointerAction, PointerInput, actions}
 use Rattle.spec_desktop.specs.PointerActions as pointer
 use Rattle.spec_desktop.specs.Windows.{Place, Window}
 use Rattle.spec_desktop.specs.declared.answers.Done.{Done}
 use Rattle.spec_desktop.specs.Changing.{changed_for, grab_holder, stacked_by, stacked_for}
-use Rattle.spec_desktop.specs.Demand.{Demand, Asks, EndSurface, AskFrame, CommitTree, GetSubsurface, EndSubsurface, SetMode, GetPointer, MakeCursor}
-use Rattle.spec_desktop.specs.Demand.{GetPopup, Grab, EndPopup, EndToplevel, Move}
+use Rattle.spec_desktop.specs.Demand.{Demand, CommitTree}
 use Rattle.spec_desktop.specs.Demanding.{effect_of_commit}
 use Rattle.spec_desktop.specs.Desktop.{Desktop, Resident, arrival, become, become_by, client_at, with_client}
-use Rattle.spec_desktop.specs.LeftOut.{LeftOut}
 use Rattle.spec_desktop.specs.Settling.{Applies, AppliesAll, EndsAndSettles, EndsFirst, Midstep, PointerActs, Settles, SettlesAll, SettlesEnds, Strike, Tells, TellsAt, TellsUnless, after_status, becomes}
 use Rattle.spec_desktop.specs.Settling.{ended_all, ended_at, ended_by, unstruck}
 use Rattle.spec_desktop.specs.Stacked.{all_windows}
@@ -29,7 +27,6 @@ use Rattle.spec_desktop.specs.Step.{with_peer}
 use Rattle.spec_desktop.specs.Act.{Act, Connect, Feed, Store, Leave, Tick, Send, Close, Motion, Button, lowest}
 use Rattle.law_desktop.proofs.Runs.Forms.{ConnectsAt, Answers, Becomes, ChangesAt, Does, LeavesAt, MovesTo, PressesIf, ReleasesIf, ServesAt, Takes, WantsOr, after_why}
 use Rattle.spec_desktop.specs.Happens.{FeedsAt, Happens, IsFedAt, Reaches, StopsAt, TellsFrames, done_for, placed, point_in, wants_memory, with_press, with_release}
-use Rattle.spec_desktop.specs.Demand.{Reposition}
 
 -- ---- what a step is made of
 
@@ -120,26 +117,11 @@ commit-same Maps true c surface d = refl
 commit-same Unmaps true c surface d = refl
 commit-same Maps false c surface d = refl
 commit-same Unmaps false c surface d = refl
-commit-same Stays toplevel c surface d = refl
-commit-same Unconfigured toplevel c surface d = refl
-commit-same Configures toplevel c surface d = refl
+commit-same effect toplevel c surface d = refl
 
 stacked-same : (c : ℕ) (demand : Demand) (r : Resident) (windows : List Window) (d : Desktop) → Same d (stacked_for c demand r windows d)
-stacked-same c (Asks ask) r windows d = refl
 stacked-same c (CommitTree surface) r windows d = commit-same (effect_of_commit r surface) (is_toplevel (xdg_of surface r.owned.shell)) c surface d
-stacked-same c (EndToplevel id xdg top) r windows d = refl
-stacked-same c (EndSurface id) r windows d = refl
-stacked-same c (AskFrame id version surface) r windows d = refl
-stacked-same c (GetSubsurface id version child parent) r windows d = refl
-stacked-same c (EndSubsurface id) r windows d = refl
-stacked-same c (SetMode link synchronised) r windows d = refl
-stacked-same c (GetPointer id version) r windows d = refl
-stacked-same c (MakeCursor surface) r windows d = refl
-stacked-same c (GetPopup id version xdg parent p) r windows d = refl
-stacked-same c (Reposition xdg token p) r windows d = refl
-stacked-same c (Grab xdg serial) r windows d = refl
-stacked-same c (EndPopup id xdg) r windows d = refl
-stacked-same c (Move surface serial) r windows d = refl
+stacked-same c demand r windows d = refl
 
 why-same : (why : Option Cause) (c : ℕ) (d : Desktop) → Same d (after_why why c d)
 why-same None c d = refl
@@ -148,31 +130,31 @@ why-same (Some cause) c d = ended-same c cause (client_at c d) d
 became-same : (Q : Peer → Type 0) (c : ℕ) (r : Resident) (d new : Desktop) → Becomes Q c r d new → Same d new
 became-same Q c r d new h = settled-same (becomes c r h.0 d) new h.2 ∙ becomes-same c r h.0 d
 
-module _ (out : LeftOut) (c : ℕ) where
-  does-same : (demand : Demand) (r : Resident) (d new : Desktop) → Does out c demand r d new → Same d new
+module _ (c : ℕ) where
+  does-same : (demand : Demand) (r : Resident) (d new : Desktop) → Does c demand r d new → Same d new
   does-same demand r d new h =
       let now : Desktop = with_client c (Some (with_peer h.0 (changed_for c demand r d))) (done_for c demand r d) in
       settled-same (after_why h.1 c now) new h.3 ∙ why-same h.1 c now ∙ stacked-same c demand r (all_windows d) d
 
-  wants-same : (b : Bool) (demand : Demand) (r : Resident) (d new : Desktop) → WantsOr b (Does out c demand r d new) c r d new → Same d new
+  wants-same : (b : Bool) (demand : Demand) (r : Resident) (d new : Desktop) → WantsOr b (Does c demand r d new) c r d new → Same d new
   wants-same false demand r d new h = does-same demand r d new h
   wants-same true demand r d new (inl h) = became-same (LacksMemory r.peer) c r d new h
   wants-same true demand r d new (inr h) = does-same demand r d new h
 
-  answers-same : (judged : Result Demand Refusal) (r : Resident) (d new : Desktop) → Answers out judged c r d new → Same d new
+  answers-same : (judged : Result Demand Refusal) (r : Resident) (d new : Desktop) → Answers judged c r d new → Same d new
   answers-same (Ok demand) r d new h = wants-same (wants_memory demand) demand (with_peer (counted r.peer) r) d new h
   answers-same (Err refusal) r d new h = became-same _ c r d new h
 
-  takes-same : (s : Split) (r : Resident) (d new : Desktop) → Takes out s c r d new → Same d new
+  takes-same : (s : Split) (r : Resident) (d new : Desktop) → Takes s c r d new → Same d new
   takes-same (Message object opcode size) r d new h = answers-same _ _ d new h
   takes-same Bad r d new h = became-same _ c r d new h
   takes-same More r d new h = absurd h
 
-  pub serves-same : (o : Option Resident) (d new : Desktop) → ServesAt out c o d new → Same d new
+  pub serves-same : (o : Option Resident) (d new : Desktop) → ServesAt c o d new → Same d new
   serves-same None d new h = absurd h
   serves-same (Some r) d new h = takes-same (split_of r.peer.rest) r d new h.1
 
-  reaches-same : (n : ℕ) (d new : Desktop) → Reaches out c n d new → Same d new
+  reaches-same : (n : ℕ) (d new : Desktop) → Reaches c n d new → Same d new
   reaches-same zero d new h = of-desktop d new h
   reaches-same (suc n) d new h = serves-same (client_at c h.0) h.0 new h.2 ∙ reaches-same n d h.0 h.1
 
@@ -181,11 +163,11 @@ module _ (out : LeftOut) (c : ℕ) where
   stops-same (Some r) d new (inl h) = of-desktop d new h.0
   stops-same (Some r) d new (inr h) = settled-same (becomes c r (ended Memory r.peer) d) new h.1 ∙ becomes-same c r (ended Memory r.peer) d
 
-  feeds-same : (piece : List ℕ) (s : Option Cause) (r : Resident) (d new : Desktop) → FeedsAt out c piece s r d new → Same d new
+  feeds-same : (piece : List ℕ) (s : Option Cause) (r : Resident) (d new : Desktop) → FeedsAt c piece s r d new → Same d new
   feeds-same piece (Some cause) r d new h = of-desktop d new h
   feeds-same piece None r d new h = stops-same (client_at c h.1) h.1 new h.3 ∙ reaches-same h.0 _ h.1 h.2
 
-  fed-same : (piece : List ℕ) (o : Option Resident) (d : Desktop) (done : Done) (new : Desktop) → IsFedAt out c piece o d done new → Same d new
+  fed-same : (piece : List ℕ) (o : Option Resident) (d : Desktop) (done : Done) (new : Desktop) → IsFedAt c piece o d done new → Same d new
   fed-same piece None d done new h = of-desktop d new h.1
   fed-same piece (Some r) d done new h = feeds-same piece r.peer.status r d new h.0
 
@@ -233,14 +215,14 @@ releases-same true time button d new h =
     last-same h.2 new h.4 ∙ settles-still h.0 h.2 h.3 ∙ acts-still (pointer.Release time button) (unstruck (with_release button d)) h.0 h.1
 releases-same false time button d new h = of-desktop d new h
 
-pub happens-output : (left : LeftOut) (act : Act) (done : Done) (d e : Desktop) → Happens left act done d e → e.output ≡ d.output
-happens-output left Connect done d e h = connects-same (lowest d.clients) d done e h
-happens-output left (Feed c piece) done d e h = fed-same left c piece (client_at c d) d done e h
-happens-output left (Store c store at bytes) done d e h = changes-same _ _ c (client_at c d) d done e h
-happens-output left (Leave c) done d e h = leaves-same c (client_at c d) d done e h
-happens-output left (Tick time) done d e h = struck-same h.1.0 e h.1.2 ∙ frames-still time 32 1 (unstruck d) h.1.0 h.1.1
-happens-output left (Send c n) done d e h = changes-same _ _ c (client_at c d) d done e h
-happens-output left (Close c) done d e h = changes-same _ _ c (client_at c d) d done e h
-happens-output left (Motion time x y) done d e h = moves-same time (point_in d.output x y) d e h.1
-happens-output left (Button time button true) done d e h = presses-same (is_press button d.pointer.buttons) time button d e h.1
-happens-output left (Button time button false) done d e h = releases-same (is_down button d.pointer.buttons) time button d e h.1
+pub happens-output : (act : Act) (done : Done) (d e : Desktop) → Happens act done d e → e.output ≡ d.output
+happens-output Connect done d e h = connects-same (lowest d.clients) d done e h
+happens-output (Feed c piece) done d e h = fed-same c piece (client_at c d) d done e h
+happens-output (Store c store at bytes) done d e h = changes-same _ _ c (client_at c d) d done e h
+happens-output (Leave c) done d e h = leaves-same c (client_at c d) d done e h
+happens-output (Tick time) done d e h = struck-same h.1.0 e h.1.2 ∙ frames-still time 32 1 (unstruck d) h.1.0 h.1.1
+happens-output (Send c n) done d e h = changes-same _ _ c (client_at c d) d done e h
+happens-output (Close c) done d e h = changes-same _ _ c (client_at c d) d done e h
+happens-output (Motion time x y) done d e h = moves-same time (point_in d.output x y) d e h.1
+happens-output (Button time button true) done d e h = presses-same (is_press button d.pointer.buttons) time button d e h.1
+happens-output (Button time button false) done d e h = releases-same (is_down button d.pointer.buttons) time button d e h.1

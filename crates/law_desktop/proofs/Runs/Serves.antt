@@ -9,14 +9,13 @@ use Rattle.spec_desktop.specs.declared.cause.Cause.{Cause}
 use Rattle.spec_desktop.specs.declared.cause.Cause.TheVariants.{Memory}
 use Rattle.spec_desktop.specs.declared.refusals.ErrorCode.TheVariants.{InvalidMethod}
 use Rattle.spec_desktop.specs.declared.refusals.Refusal.{Refusal}
-use Rattle.spec_desktop.specs.Peer.{Errs, IsIdleAt, LacksMemory, Peer, counted, ended, with_rest}
-use Rattle.spec_desktop.specs.Told.{Said, display_error}
-use Rattle.spec_desktop.proofs.Unique.{refused_is}
+use Rattle.spec_desktop.specs.Peer.{Errs, IsIdleAt, LacksMemory, Peer, QueuesOr, counted, ended, has_room, with_rest}
+use Rattle.spec_desktop.specs.Told.{Said, display_error, error_told}
+use Rattle.law_desktop.specs.Ample.{refused, refused_or}
 use Rattle.spec_desktop.specs.Changing.{changed_for}
 use Rattle.spec_desktop.specs.Demand.{Demand}
 use Rattle.spec_desktop.specs.Demanding.{judge_all}
 use Rattle.spec_desktop.specs.Desktop.{Desktop, Resident, become_by, client_at, client_in, resident_of, with_client, with_number, status_in, status_of}
-use Rattle.spec_desktop.specs.LeftOut.{LeftOut}
 use Rattle.spec_desktop.specs.Replies.{replies}
 use Rattle.spec_desktop.specs.Settling.{EndsAndSettles, QueuesTo, after_status, becomes, ended_at, unstruck}
 use Rattle.spec_desktop.specs.Stacked.{all_windows}
@@ -134,14 +133,23 @@ done-clients_stay c demand r d = stacked-for c demand r (all_windows d) d
 
 -- ---- a message
 
+choice : (b : Bool) (Later : Type 0) (p q x : Peer) → (Later → q ≡ x) → q.status ≢ Some Memory → QueuesOr b Later p q → q ≡ refused_or b x p
+choice false Later p q x next kept h = h
+choice true Later p q x next kept (inl h) = absurd (kept (ap (λ (y : Peer). y.status) h))
+choice true Later p q x next kept (inr h) = next h
+
+-- a client is refused in one way where memory is there
+refused_is : (refusal : Refusal) (p q : Peer) → q.status ≢ Some Memory → Errs refusal p q → q ≡ refused refusal p
+refused_is refusal p q kept h = choice (has_room p.unsent (error_told refusal)) _ p q _ (λ e. e) kept h
+
 pub lacking : (p q : Peer) → LacksMemory p q → q.status ≡ Some Memory
 lacking p q (inl h) = ap (λ x. x.status) h
 lacking p q (inr h) = ap (λ x. x.status) h.1
 
-module _ (out : LeftOut) (c : ℕ) (d : Desktop) (lives : Lives c d.clients) (few : lasting d.clients ≤ 32) where
-  does-leads : (demand : Demand) (r : Resident) → Leads Desktop unstruck (unstruck d) (Does out c demand r d)
+module _ (c : ℕ) (d : Desktop) (lives : Lives c d.clients) (few : lasting d.clients ≤ 32) where
+  does-leads : (demand : Demand) (r : Resident) → Leads Desktop unstruck (unstruck d) (Does c demand r d)
   does-leads demand r =
-      doing-leads c (replies out c demand r (changed_for c demand r d) (all_windows d) d) (changed_for c demand r d) d (done_for c demand r d) (done-clients_stay c demand r d) lives few
+      doing-leads c (replies c demand r (changed_for c demand r d) (all_windows d) d) (changed_for c demand r d) d (done_for c demand r d) (done-clients_stay c demand r d) lives few
 
   lacks-leads : (r : Resident) → Leads Desktop unstruck (unstruck d) (Becomes (LacksMemory r.peer) c r d)
   lacks-leads r = becomes-leads c d lives few (LacksMemory r.peer) (λ p q h k fine well. absurd (fine (lacking r.peer p h))) r
@@ -155,41 +163,41 @@ module _ (out : LeftOut) (c : ℕ) (d : Desktop) (lives : Lives c d.clients) (fe
   errs-leads : (refusal : Refusal) (p : Peer) (r : Resident) → Leads Desktop unstruck (unstruck d) (Becomes (Errs refusal p) c r d)
   errs-leads refusal p r = becomes-leads c d lives few (Errs refusal p) (λ q s h k fine well. refused_is refusal p q fine h ∙ sym (refused_is refusal p s well k)) r
 
-  answers-leads : (judged : Result Demand Refusal) (r : Resident) → Leads Desktop unstruck (unstruck d) (Answers out judged c r d)
+  answers-leads : (judged : Result Demand Refusal) (r : Resident) → Leads Desktop unstruck (unstruck d) (Answers judged c r d)
   answers-leads (Ok demand) r =
       let now = with_peer (counted r.peer) r in
-      wants-leads (wants_memory demand) now (Does out c demand now d) (does-leads demand now)
+      wants-leads (wants_memory demand) now (Does c demand now d) (does-leads demand now)
   answers-leads (Err refusal) r = errs-leads refusal r.peer r
 
-  takes-leads : (split : Split) (r : Resident) → Leads Desktop unstruck (unstruck d) (Takes out split c r d)
-  takes-leads (Message object opcode size) r = answers-leads (judge_all out r object opcode _) (with_peer (with_rest (drop size r.peer.rest) r.peer) r)
+  takes-leads : (split : Split) (r : Resident) → Leads Desktop unstruck (unstruck d) (Takes split c r d)
+  takes-leads (Message object opcode size) r = answers-leads (judge_all r object opcode _) (with_peer (with_rest (drop size r.peer.rest) r.peer) r)
   takes-leads Bad r = errs-leads (display_error InvalidMethod) r.peer r
   takes-leads More r = nowhere Desktop unstruck (unstruck d)
 
-pub serves-leads : (out : LeftOut) (c : ℕ) (d : Desktop) → lasting d.clients ≤ 32 → Leads Desktop unstruck (unstruck d) (Serves out c d)
-serves-leads out c d few = at (client_at c d) refl
+pub serves-leads : (c : ℕ) (d : Desktop) → lasting d.clients ≤ 32 → Leads Desktop unstruck (unstruck d) (Serves c d)
+serves-leads c d few = at (client_at c d) refl
   where
-    at : (o : Option Resident) → client_at c d ≡ o → Leads Desktop unstruck (unstruck d) (ServesAt out c o d)
+    at : (o : Option Resident) → client_at c d ≡ o → Leads Desktop unstruck (unstruck d) (ServesAt c o d)
     at None is = nowhere Desktop unstruck (unstruck d)
     at (Some r) is =
-        given Desktop unstruck (unstruck d) (r.peer.status ≡ None) (Takes out (split_of r.peer.rest) c r d)
-        (λ alive. takes-leads out c d (record { there = r; is = is; alive = alive }) few (split_of r.peer.rest) r)
+        given Desktop unstruck (unstruck d) (r.peer.status ≡ None) (Takes (split_of r.peer.rest) c r d)
+        (λ alive. takes-leads c d (record { there = r; is = is; alive = alive }) few (split_of r.peer.rest) r)
 
 -- ---- a piece
 
 -- n messages and then the stop, from the first on
-RunsOn : LeftOut → ℕ → ℕ → Desktop → Desktop → Type 0
-RunsOn out zero c d new = StopsAt c (client_at c d) d new
-RunsOn out (suc n) c d new = (mid : Desktop) × Serves out c d mid × RunsOn out n c mid new
+RunsOn : ℕ → ℕ → Desktop → Desktop → Type 0
+RunsOn zero c d new = StopsAt c (client_at c d) d new
+RunsOn (suc n) c d new = (mid : Desktop) × Serves c d mid × RunsOn n c mid new
 
-turned : (out : LeftOut) (n k c : ℕ) (d mid new : Desktop) → Reaches out c n d mid → RunsOn out k c mid new → (j : ℕ) × RunsOn out j c d new
+turned : (n k c : ℕ) (d mid new : Desktop) → Reaches c n d mid → RunsOn k c mid new → (j : ℕ) × RunsOn j c d new
 unfolding RunsOn
-turned out zero k c d mid new h runs = (k, subst (λ x. RunsOn out k c x new) h runs)
-turned out (suc n) k c d mid new h runs = turned out n (suc k) c d h.0 new h.1 (mid, h.2, runs)
+turned zero k c d mid new h runs = (k, subst (λ x. RunsOn k c x new) h runs)
+turned (suc n) k c d mid new h runs = turned n (suc k) c d h.0 new h.1 (mid, h.2, runs)
 
-stopping : (out : LeftOut) (c : ℕ) (d new : Desktop) → StopsAt c (client_at c d) d new → RunsOn out 0 c d new
+stopping : (c : ℕ) (d new : Desktop) → StopsAt c (client_at c d) d new → RunsOn 0 c d new
 unfolding RunsOn
-stopping out c d new h = h
+stopping c d new h = h
 
 stops-after : (c : ℕ) (d new : Desktop) → lasting d.clients ≤ 32 → StopsAt c (client_at c d) d new → After (unstruck d) (unstruck new)
 stops-after c d new few h = at (client_at c d) refl h
@@ -203,67 +211,67 @@ stops-after c d new few h = at (client_at c d) refl h
         (becomes-after c d lives r (ended Memory r.peer)) (settled-leads c d lives few r (ended Memory r.peer))).follows new h.1
 
 -- nothing is left to take of a client that is idle
-idle-by : (out : LeftOut) (c : ℕ) (s : Option Cause) (r : Resident) (d new : Desktop) → s ≡ None → IsIdleAt s r.peer.rest → Takes out (split_of r.peer.rest) c r d new → ⊥
-idle-by out c None r d new alive idle takes = subst (λ split. Takes out split c r d new) idle takes
-idle-by out c (Some cause) r d new alive idle takes = none-some cause (sym alive)
+idle-by : (c : ℕ) (s : Option Cause) (r : Resident) (d new : Desktop) → s ≡ None → IsIdleAt s r.peer.rest → Takes (split_of r.peer.rest) c r d new → ⊥
+idle-by c None r d new alive idle takes = subst (λ split. Takes split c r d new) idle takes
+idle-by c (Some cause) r d new alive idle takes = none-some cause (sym alive)
 
 -- where memory is there, messages stop where none is left
-stops-spared : (out : LeftOut) (c : ℕ) (d new : Desktop) → lasting d.clients ≤ 32 → StopsAt c (client_at c d) d new → Spares (unstruck d) (unstruck new) → (new ≡ d)
-    × ((mid : Desktop) → Serves out c d mid → ⊥)
-stops-spared out c d new few h fine = at (client_at c d) refl h
+stops-spared : (c : ℕ) (d new : Desktop) → lasting d.clients ≤ 32 → StopsAt c (client_at c d) d new → Spares (unstruck d) (unstruck new) → (new ≡ d)
+    × ((mid : Desktop) → Serves c d mid → ⊥)
+stops-spared c d new few h fine = at (client_at c d) refl h
   where
-    at : (o : Option Resident) → client_at c d ≡ o → StopsAt c o d new → (new ≡ d) × ((mid : Desktop) → Serves out c d mid → ⊥)
+    at : (o : Option Resident) → client_at c d ≡ o → StopsAt c o d new → (new ≡ d) × ((mid : Desktop) → Serves c d mid → ⊥)
     at None is h = absurd h
     at (Some r) is (inl h) = (
       h.0,
-      λ mid serves. let here : ServesAt out c (Some r) d mid = subst (λ o. ServesAt out c o d mid) is serves in idle-by out c r.peer.status r d mid here.0 h.1 here.1,
+      λ mid serves. let here : ServesAt c (Some r) d mid = subst (λ o. ServesAt c o d mid) is serves in idle-by c r.peer.status r d mid here.0 h.1 here.1,
     )
     at (Some r) is (inr h) =
         let lives : Lives c d.clients = record { there = r; is = is; alive = h.0 } in
         absurd (becomes-lacking c d lives few (λ q. q ≡ ended Memory r.peer) (λ q e. ap (λ x. x.status) e) r new (ended Memory r.peer, refl, h.1) fine)
 
-runs-after : (out : LeftOut) (n c : ℕ) (d new : Desktop) → lasting d.clients ≤ 32 → RunsOn out n c d new → After (unstruck d) (unstruck new)
+runs-after : (n c : ℕ) (d new : Desktop) → lasting d.clients ≤ 32 → RunsOn n c d new → After (unstruck d) (unstruck new)
 unfolding RunsOn
-runs-after out zero c d new few h = stops-after c d new few h
-runs-after out (suc n) c d new few h =
-    let first = (serves-leads out c d few).follows h.0 h.1 in
-    follows-on first (runs-after out n c h.0 new (omega (arith, few, first.fewer)) h.2)
+runs-after zero c d new few h = stops-after c d new few h
+runs-after (suc n) c d new few h =
+    let first = (serves-leads c d few).follows h.0 h.1 in
+    follows-on first (runs-after n c h.0 new (omega (arith, few, first.fewer)) h.2)
 
-runs-once : (out : LeftOut) (n k c : ℕ) (d new end : Desktop) → lasting d.clients ≤ 32 → RunsOn out n c d new → RunsOn out k c d end → Spares (unstruck d) (unstruck new)
+runs-once : (n k c : ℕ) (d new end : Desktop) → lasting d.clients ≤ 32 → RunsOn n c d new → RunsOn k c d end → Spares (unstruck d) (unstruck new)
     → Spares (unstruck d) (unstruck end) → new ≡ end
 unfolding RunsOn
-runs-once out zero zero c d new end few h k fine well = (stops-spared out c d new few h fine).0 ∙ sym (stops-spared out c d end few k well).0
-runs-once out zero (suc m) c d new end few h k fine well = absurd ((stops-spared out c d new few h fine).1 k.0 k.1)
-runs-once out (suc n) zero c d new end few h k fine well = absurd ((stops-spared out c d end few k well).1 h.0 h.1)
-runs-once out (suc n) (suc m) c d new end few h k fine well =
-    let serves = serves-leads out c d few in
+runs-once zero zero c d new end few h k fine well = (stops-spared c d new few h fine).0 ∙ sym (stops-spared c d end few k well).0
+runs-once zero (suc m) c d new end few h k fine well = absurd ((stops-spared c d new few h fine).1 k.0 k.1)
+runs-once (suc n) zero c d new end few h k fine well = absurd ((stops-spared c d end few k well).1 h.0 h.1)
+runs-once (suc n) (suc m) c d new end few h k fine well =
+    let serves = serves-leads c d few in
     let first = serves.follows h.0 h.1 in
     let second = serves.follows k.0 k.1 in
     let less : lasting (k.0).clients ≤ 32 = omega (arith, few, second.fewer) in
     let one : h.0 ≡ k.0 =
-    serves.once h.0 k.0 h.1 k.1 (spares-first (unstruck d) (unstruck h.0) (unstruck new) (runs-after out n c h.0 new (omega (arith, few, first.fewer)) h.2) fine)
-    (spares-first (unstruck d) (unstruck k.0) (unstruck end) (runs-after out m c k.0 end less k.2) well) in
-    runs-once out n m c k.0 new end less (subst (λ x. RunsOn out n c x new) one h.2) k.2 (spares-rest (unstruck d) (unstruck k.0) (unstruck new) second fine)
+    serves.once h.0 k.0 h.1 k.1 (spares-first (unstruck d) (unstruck h.0) (unstruck new) (runs-after n c h.0 new (omega (arith, few, first.fewer)) h.2) fine)
+    (spares-first (unstruck d) (unstruck k.0) (unstruck end) (runs-after m c k.0 end less k.2) well) in
+    runs-once n m c k.0 new end less (subst (λ x. RunsOn n c x new) one h.2) k.2 (spares-rest (unstruck d) (unstruck k.0) (unstruck new) second fine)
     (spares-rest (unstruck d) (unstruck k.0) (unstruck end) second well)
 
-runs-lead : (out : LeftOut) (c : ℕ) (d : Desktop) → lasting d.clients ≤ 32 → Leads Desktop unstruck (unstruck d) (λ new. (n : ℕ) × RunsOn out n c d new)
-runs-lead out c d few =
+runs-lead : (c : ℕ) (d : Desktop) → lasting d.clients ≤ 32 → Leads Desktop unstruck (unstruck d) (λ new. (n : ℕ) × RunsOn n c d new)
+runs-lead c d few =
     record {
-      follows = λ new h. runs-after out h.0 c d new few h.1;
-      once = λ new end h k fine well. runs-once out h.0 k.0 c d new end few h.1 k.1 fine well;
+      follows = λ new h. runs-after h.0 c d new few h.1;
+      once = λ new end h k fine well. runs-once h.0 k.0 c d new end few h.1 k.1 fine well;
     }
 
 -- a piece comes to a client
-pub feeds-leads : (out : LeftOut) (c : ℕ) (piece : List ℕ) (r : Resident) (d : Desktop) → client_at c d ≡ Some r → lasting d.clients ≤ 32
-    → Leads Desktop unstruck (unstruck d) (FeedsAt out c piece r.peer.status r d)
-feeds-leads out c piece r d is few = at r.peer.status refl
+pub feeds-leads : (c : ℕ) (piece : List ℕ) (r : Resident) (d : Desktop) → client_at c d ≡ Some r → lasting d.clients ≤ 32
+    → Leads Desktop unstruck (unstruck d) (FeedsAt c piece r.peer.status r d)
+feeds-leads c piece r d is few = at r.peer.status refl
   where
-    at : (s : Option Cause) → r.peer.status ≡ s → Leads Desktop unstruck (unstruck d) (FeedsAt out c piece s r d)
+    at : (s : Option Cause) → r.peer.status ≡ s → Leads Desktop unstruck (unstruck d) (FeedsAt c piece s r d)
     at (Some cause) e = only Desktop unstruck (unstruck d) d (still [] d.clients tt)
     at None e =
         let come : Resident = with_peer (with_rest (r.peer.rest ++ piece) r.peer) r in
         let start : Desktop = with_client c (Some come) d in
         let comes : After (unstruck d) (unstruck start) = put-follows d.clients c (record { there = r; is = is; alive = e }) (Some come) in
-        from Desktop unstruck (unstruck d) (unstruck start) (FeedsAt out c piece None r d) comes
-        (worded Desktop unstruck (unstruck start) (λ new. (n : ℕ) × RunsOn out n c start new) (FeedsAt out c piece None r d)
-        (λ new h. turned out h.0 0 c start h.1 new h.2 (stopping out c h.1 new h.3)) (runs-lead out c start (omega (arith, few, comes.fewer))))
+        from Desktop unstruck (unstruck d) (unstruck start) (FeedsAt c piece None r d) comes
+        (worded Desktop unstruck (unstruck start) (λ new. (n : ℕ) × RunsOn n c start new) (FeedsAt c piece None r d)
+        (λ new h. turned h.0 0 c start h.1 new h.2 (stopping c h.1 new h.3)) (runs-lead c start (omega (arith, few, comes.fewer))))

@@ -24,7 +24,6 @@ use Rattle.spec_desktop.specs.Changing.{changed_for, grab_holder}
 use Rattle.spec_desktop.specs.Demand.{Demand}
 use Rattle.spec_desktop.specs.Desktop.{Desktop, Resident, arrival, become_by, client_at, owned_in, owned_of, place, with_client, with_place}
 use Rattle.spec_desktop.specs.Happens.{AnswersThen, BecomesThen, DoesThen, FeedsAt, IsFedAt, Reaches, ServesThen, StopsAt, TakesThen, WantsOrThen, changed_so, done_for, placed, point_in, settling, wants_memory, with_press, with_release}
-use Rattle.spec_desktop.specs.LeftOut.{LeftOut}
 use Rattle.spec_desktop.specs.Settling.{Applies, AppliesAll, EndsAndSettles, EndsFirst, Midstep, PointerActs, Settles, SettlesAll, SettlesEnds, Strike, Tells, TellsAt, TellsUnless, after_status, becomes, ended_all, ended_at, ended_by, unstruck, with_focus}
 use Rattle.spec_desktop.specs.Stacked.{all_windows}
 use Rattle.spec_desktop.specs.Step.{with_peer}
@@ -270,28 +269,28 @@ module _ (d new : Desktop) (short : length d.clients ≤ 32) where
   becomes-settled : (Q : Peer → Type 0) (c : ℕ) (r : Resident) → BecomesThen Q c r d (settling new) → IsSettled new
   becomes-settled Q c r h = settled-of (unstruck (becomes c r h.0 d)) (becomes-long c r h.0 d) h.2
 
-  done-settled : (left : LeftOut) (c : ℕ) (demand : Demand) (r : Resident) → DoesThen left c demand r d (settling new) → IsSettled new
-  done-settled left c demand r h =
+  done-settled : (c : ℕ) (demand : Demand) (r : Resident) → DoesThen c demand r d (settling new) → IsSettled new
+  done-settled c demand r h =
       settled-of (changed_so c demand r d h.0 h.1)
       (number-long (done_for c demand r d).clients c (Some (with_peer h.0 (changed_for c demand r d))) ∙ ap (λ rs. length rs) (done-clients_stay c demand r d)) h.3
 
-  wants-settled : (b : Bool) (left : LeftOut) (c : ℕ) (demand : Demand) (r : Resident) → WantsOrThen b (DoesThen left c demand r d (settling new)) c r d (settling new) → IsSettled new
-  wants-settled false left c demand r h = done-settled left c demand r h
-  wants-settled true left c demand r (inl h) = becomes-settled (LacksMemory r.peer) c r h
-  wants-settled true left c demand r (inr h) = done-settled left c demand r h
+  wants-settled : (b : Bool) (c : ℕ) (demand : Demand) (r : Resident) → WantsOrThen b (DoesThen c demand r d (settling new)) c r d (settling new) → IsSettled new
+  wants-settled false c demand r h = done-settled c demand r h
+  wants-settled true c demand r (inl h) = becomes-settled (LacksMemory r.peer) c r h
+  wants-settled true c demand r (inr h) = done-settled c demand r h
 
-  answered-settled : (left : LeftOut) (judged : Result Demand Refusal) (c : ℕ) (r : Resident) → AnswersThen left judged c r d (settling new) → IsSettled new
-  answered-settled left (Ok demand) c r h = wants-settled (wants_memory demand) left c demand (with_peer (counted r.peer) r) h
-  answered-settled left (Err refusal) c r h = becomes-settled (Errs refusal r.peer) c r h
+  answered-settled : (judged : Result Demand Refusal) (c : ℕ) (r : Resident) → AnswersThen judged c r d (settling new) → IsSettled new
+  answered-settled (Ok demand) c r h = wants-settled (wants_memory demand) c demand (with_peer (counted r.peer) r) h
+  answered-settled (Err refusal) c r h = becomes-settled (Errs refusal r.peer) c r h
 
-  taken-settled : (left : LeftOut) (split : Split) (c : ℕ) (r : Resident) → TakesThen left split c r d (settling new) → IsSettled new
-  taken-settled left (Message object opcode size) c r h = answered-settled left _ c (with_peer (with_rest (drop size r.peer.rest) r.peer) r) h
-  taken-settled left Bad c r h = becomes-settled (Errs (display_error InvalidMethod) r.peer) c r h
-  taken-settled left More c r h = absurd h
+  taken-settled : (split : Split) (c : ℕ) (r : Resident) → TakesThen split c r d (settling new) → IsSettled new
+  taken-settled (Message object opcode size) c r h = answered-settled _ c (with_peer (with_rest (drop size r.peer.rest) r.peer) r) h
+  taken-settled Bad c r h = becomes-settled (Errs (display_error InvalidMethod) r.peer) c r h
+  taken-settled More c r h = absurd h
 
-  served-settled : (left : LeftOut) (c : ℕ) (o : Option Resident) → ServesThen left c o d (settling new) → IsSettled new
-  served-settled left c None h = absurd h
-  served-settled left c (Some r) h = taken-settled left (split_of r.peer.rest) c r h.1
+  served-settled : (c : ℕ) (o : Option Resident) → ServesThen c o d (settling new) → IsSettled new
+  served-settled c None h = absurd h
+  served-settled c (Some r) h = taken-settled (split_of r.peer.rest) c r h.1
 
 -- ---- a piece
 
@@ -305,12 +304,12 @@ settled-same d e same is = subst IsSettled (sym same) is
 within-long : (d e : Desktop) → length e.clients ≡ length d.clients → length d.clients ≤ 32 → length e.clients ≤ 32
 within-long d e long short = subst (λ (n : ℕ). n ≤ 32) (sym long) short
 
-reached-settled : (left : LeftOut) (c n : ℕ) (d mid : Desktop) → length d.clients ≤ 32 → IsSettled d → Reaches left c n d mid → (length mid.clients ≡ length d.clients) × IsSettled mid
-reached-settled left c zero d mid short is h = (ap (λ (x : Desktop). length x.clients) h, settled-same d mid h is)
-reached-settled left c (suc n) d mid short is h =
-    let before = reached-settled left c n d h.0 short is h.1 in
+reached-settled : (c n : ℕ) (d mid : Desktop) → length d.clients ≤ 32 → IsSettled d → Reaches c n d mid → (length mid.clients ≡ length d.clients) × IsSettled mid
+reached-settled c zero d mid short is h = (ap (λ (x : Desktop). length x.clients) h, settled-same d mid h is)
+reached-settled c (suc n) d mid short is h =
+    let before = reached-settled c n d h.0 short is h.1 in
     let few = within-long d h.0 before.0 short in
-    ((((serves-leads left c h.0 (few-of h.0 few)).follows mid h.2).long ∙ before.0), served-settled h.0 mid few left c (client_at c h.0) h.2)
+    ((((serves-leads c h.0 (few-of h.0 few)).follows mid h.2).long ∙ before.0), served-settled h.0 mid few c (client_at c h.0) h.2)
 
 stopped-settled : (c : ℕ) (o : Option Resident) (d new : Desktop) → length d.clients ≤ 32 → IsSettled d → StopsAt c o d new → IsSettled new
 stopped-settled c None d new short is h = absurd h
@@ -318,21 +317,21 @@ stopped-settled c (Some r) d new short is (inl h) = settled-same d new h.0 is
 stopped-settled c (Some r) d new short is (inr h) =
     settled-of d new short (unstruck (becomes c r (ended Memory r.peer) d)) (becomes-long c r (ended Memory r.peer) d) h.1
 
-feeds-settled : (left : LeftOut) (c : ℕ) (piece : List ℕ) (s : Option Cause) (r : Resident) (d new : Desktop) → client_at c d ≡ Some r → length d.clients ≤ 32 → IsSettled d → FeedsAt left c piece s r d new
+feeds-settled : (c : ℕ) (piece : List ℕ) (s : Option Cause) (r : Resident) (d new : Desktop) → client_at c d ≡ Some r → length d.clients ≤ 32 → IsSettled d → FeedsAt c piece s r d new
     → IsSettled new
-feeds-settled left c piece (Some cause) r d new there short is h = settled-same d new h is
-feeds-settled left c piece None r d new there short is h =
+feeds-settled c piece (Some cause) r d new there short is h = settled-same d new h is
+feeds-settled c piece None r d new there short is h =
     let come : Resident = with_peer (with_rest (r.peer.rest ++ piece) r.peer) r in
     let start : Desktop = with_client c (Some come) d in
     let begun : IsSettled start = settled-shown d start (put-shows c r (Some come) d there refl) refl is in
     let few : length start.clients ≤ 32 = within-long d start (number-long d.clients c (Some come)) short in
-    let there = reached-settled left c h.0 start h.1 few begun h.2 in
+    let there = reached-settled c h.0 start h.1 few begun h.2 in
     stopped-settled c (client_at c h.1) h.1 new (within-long start h.1 there.0 few) there.1 h.3
 
-fed-settled : (left : LeftOut) (c : ℕ) (piece : List ℕ) (o : Option Resident) (d new : Desktop) (done : Done) → client_at c d ≡ o → length d.clients ≤ 32 → IsSettled d → IsFedAt left c piece o d done new
+fed-settled : (c : ℕ) (piece : List ℕ) (o : Option Resident) (d new : Desktop) (done : Done) → client_at c d ≡ o → length d.clients ≤ 32 → IsSettled d → IsFedAt c piece o d done new
     → IsSettled new
-fed-settled left c piece None d new done there short is h = settled-same d new h.1 is
-fed-settled left c piece (Some r) d new done there short is h = feeds-settled left c piece r.peer.status r d new there short is h.0
+fed-settled c piece None d new done there short is h = settled-same d new h.1 is
+fed-settled c piece (Some r) d new done there short is h = feeds-settled c piece r.peer.status r d new there short is h.0
 
 -- ---- a client comes, goes, is written to, sent to or closed
 
@@ -442,18 +441,18 @@ buttons-settled false time button d new short is h = releases-settled (is_down b
 -- ---- all of them
 
 pub focus-is-settled : FocusIsSettled
-focus-is-settled left Connect done d new short none is h = connects-settled (lowest d.clients) d new done refl is h
-focus-is-settled left (Feed c piece) done d new short none is h = fed-settled left c piece (client_at c d) d new done refl short is h
-focus-is-settled left (Store c store at bytes) done d new short none is h =
+focus-is-settled Connect done d new short none is h = connects-settled (lowest d.clients) d new done refl is h
+focus-is-settled (Feed c piece) done d new short none is h = fed-settled c piece (client_at c d) d new done refl short is h
+focus-is-settled (Store c store at bytes) done d new short none is h =
     changes-settled (IsStored store at bytes) _ done c (client_at c d) d new refl (λ r q there stored gone. never-none q _ stored.0 gone) is h
-focus-is-settled left (Going c) done d new short none is h = leaves-settled c (client_at c d) d new done short is h
-focus-is-settled left (Tick time) done d new short none is h = shown-settled time d new short h.1
-focus-is-settled left (Send c n) done d new short none is h =
+focus-is-settled (Going c) done d new short none is h = leaves-settled c (client_at c d) d new done short is h
+focus-is-settled (Tick time) done d new short none is h = shown-settled time d new short h.1
+focus-is-settled (Send c n) done d new short none is h =
     changes-settled (IsSent n) _ done c (client_at c d) d new refl (λ r q there sent gone. never-none q _ sent.0 gone) is h
-focus-is-settled left (Close c) done d new short none is h =
+focus-is-settled (Close c) done d new short none is h =
     changes-settled IsClosed _ done c (client_at c d) d new refl (λ r q there closed gone. none c r there (closed-none r.peer.status r.peer (sym closed.0 ∙ gone))) is h
-focus-is-settled left (Moving time x y) done d new short none is h = moved-settled time (point_in d.output x y) d new short h.1
-focus-is-settled left (Button time button pressed) done d new short none is h = buttons-settled pressed time button d new short is h.1
+focus-is-settled (Moving time x y) done d new short none is h = moved-settled time (point_in d.output x y) d new short h.1
+focus-is-settled (Button time button pressed) done d new short none is h = buttons-settled pressed time button d new short is h.1
 
 -- ---- the pointer does few things
 

@@ -122,15 +122,15 @@ closed-leaves c other p done q away h = inr away
 -- ---- all of them
 
 pub ends_stay : EndsStay
-ends_stay out Connect done d new c why short h kept is = connects-stay d new done c why h is
-ends_stay out (Feed a piece) done d new c why short h kept is = (fed-after out a piece (client_at a d) d new done refl (few-of d short) h).keeps c why is
-ends_stay out (Store a store at bytes) done d new c why short h kept is =
+ends_stay Connect done d new c why short h kept is = connects-stay d new done c why h is
+ends_stay (Feed a piece) done d new c why short h kept is = (fed-after a piece (client_at a d) d new done refl (few-of d short) h).keeps c why is
+ends_stay (Store a store at bytes) done d new c why short h kept is =
     changes-stay (IsStored store at bytes) _ done a c (client_at a d) d new refl (λ p q stored. stored-leaves a c store at bytes p done q stored) h ∙ is
-ends_stay out (Leave a) done d new c why short h kept is = (leaves-after a (client_at a d) d new done refl (few-of d short) h).keeps c why is
-ends_stay out (Tick time) done d new c why short h kept is = ((shows-leads time d (few-of d short)).follows new h.1).keeps c why is
-ends_stay out (Send a n) done d new c why short h kept is = changes-stay (IsSent n) _ done a c (client_at a d) d new refl (λ p q sent. sent-leaves a c n p done q sent) h ∙ is
-ends_stay out (Close a) done d new c why short h kept is =
+ends_stay (Leave a) done d new c why short h kept is = (leaves-after a (client_at a d) d new done refl (few-of d short) h).keeps c why is
+ends_stay (Tick time) done d new c why short h kept is = ((shows-leads time d (few-of d short)).follows new h.1).keeps c why is
+ends_stay (Send a n) done d new c why short h kept is = changes-stay (IsSent n) _ done a c (client_at a d) d new refl (λ p q sent. sent-leaves a c n p done q sent) h ∙ is
+ends_stay (Close a) done d new c why short h kept is =
     changes-stay IsClosed _ done a c (client_at a d) d new refl (λ p q closed. closed-leaves a c p done q (λ e. kept (ap (λ n. Close n) e)) closed) h ∙ is
-ends_stay out (Motion time x y) done d new c why short h kept is = ((motion-leads time x y d short).follows new h.1).keeps c why is
-ends_stay out (Button time button pressed) done d new c why short h kept is =
+ends_stay (Motion time x y) done d new c why short h kept is = ((motion-leads time x y d short).follows new h.1).keeps c why is
+ends_stay (Button time button pressed) done d new c why short h kept is =
     ((buttons-leads pressed time button d (few-of d short)).follows new h.1).keeps c why is

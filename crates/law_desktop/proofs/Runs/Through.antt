@@ -12,7 +12,6 @@ use Rattle.spec_desktop.specs.Pointer.{is_down, is_press}
 use Rattle.spec_desktop.specs.declared.answers.Done.{Done}
 use Rattle.spec_desktop.specs.Demand.{Demand}
 use Rattle.spec_desktop.specs.Desktop.{Desktop, Resident, client_at}
-use Rattle.spec_desktop.specs.LeftOut.{LeftOut}
 use Rattle.spec_desktop.specs.Settling.{EndsFirst, Midstep, SettlesAll, Strike, becomes, ended_all, ended_by, unstruck}
 use Rattle.spec_desktop.specs.Step.{with_peer}
 use Rattle.spec_desktop.specs.Act.{Act, Connect, Feed, Store, Leave, Tick, Send, Close, Motion, Button, lowest}
@@ -28,8 +27,8 @@ module _ {P : Type 0} (N S : Midstep → Type 0) (T U : P → Midstep → Type 0
   became : (Q : Peer → Type 0) (c : ℕ) (r : Resident) (d : Desktop) → BecomesThen Q c r d N → (p : P) × BecomesThen Q c r d (T p)
   became Q c r d h = let k = next (unstruck (becomes c r h.0 d)) h.2 in (k.0, (h.0, h.1, k.1))
 
-  did : (left : LeftOut) (c : ℕ) (demand : Demand) (r : Resident) (d : Desktop) → DoesThen left c demand r d N → (p : P) × DoesThen left c demand r d (T p)
-  did left c demand r d h = let k = next (changed_so c demand r d h.0 h.1) h.3 in (k.0, (h.0, h.1, h.2, k.1))
+  did : (c : ℕ) (demand : Demand) (r : Resident) (d : Desktop) → DoesThen c demand r d N → (p : P) × DoesThen c demand r d (T p)
+  did c demand r d h = let k = next (changed_so c demand r d h.0 h.1) h.3 in (k.0, (h.0, h.1, h.2, k.1))
 
   wanted : (b : Bool) (Later : Type 0) (Then : P → Type 0) → (Later → (p : P) × Then p) → (c : ℕ) (r : Resident) (d : Desktop) → WantsOrThen b Later c r d N → (p : P)
       × WantsOrThen b (Then p) c r d (T p)
@@ -37,20 +36,20 @@ module _ {P : Type 0} (N S : Midstep → Type 0) (T U : P → Midstep → Type 0
   wanted true Later Then go c r d (inl h) = let k = became (LacksMemory r.peer) c r d h in (k.0, inl k.1)
   wanted true Later Then go c r d (inr h) = let k = go h in (k.0, inr k.1)
 
-  answered : (left : LeftOut) (judged : Result Demand Refusal) (c : ℕ) (r : Resident) (d : Desktop) → AnswersThen left judged c r d N → (p : P) × AnswersThen left judged c r d (T p)
-  answered left (Ok demand) c r d h =
+  answered : (judged : Result Demand Refusal) (c : ℕ) (r : Resident) (d : Desktop) → AnswersThen judged c r d N → (p : P) × AnswersThen judged c r d (T p)
+  answered (Ok demand) c r d h =
       let now : Resident = with_peer (counted r.peer) r in
-      wanted (wants_memory demand) (DoesThen left c demand now d N) (λ p. DoesThen left c demand now d (T p)) (did left c demand now d) c now d h
-  answered left (Err refusal) c r d h = became _ c r d h
+      wanted (wants_memory demand) (DoesThen c demand now d N) (λ p. DoesThen c demand now d (T p)) (did c demand now d) c now d h
+  answered (Err refusal) c r d h = became _ c r d h
 
-  took : (left : LeftOut) (split : Split) (c : ℕ) (r : Resident) (d : Desktop) → TakesThen left split c r d N → (p : P) × TakesThen left split c r d (T p)
-  took left (Message object opcode size) c r d h = answered left _ c _ d h
-  took left Bad c r d h = became _ c r d h
-  took left More c r d h = absurd h
+  took : (split : Split) (c : ℕ) (r : Resident) (d : Desktop) → TakesThen split c r d N → (p : P) × TakesThen split c r d (T p)
+  took (Message object opcode size) c r d h = answered _ c _ d h
+  took Bad c r d h = became _ c r d h
+  took More c r d h = absurd h
 
-  pub served : (left : LeftOut) (c : ℕ) (o : Option Resident) (d : Desktop) → ServesThen left c o d N → (p : P) × ServesThen left c o d (T p)
-  served left c None d h = absurd h
-  served left c (Some r) d h = let k = took left (split_of r.peer.rest) c r d h.1 in (k.0, (h.0, k.1))
+  pub served : (c : ℕ) (o : Option Resident) (d : Desktop) → ServesThen c o d N → (p : P) × ServesThen c o d (T p)
+  served c None d h = absurd h
+  served c (Some r) d h = let k = took (split_of r.peer.rest) c r d h.1 in (k.0, (h.0, k.1))
 
   connected : (k : Option ℕ) (d : Desktop) (done : Done) → ConnectsThen k d done S → (p : P) × ConnectsThen k d done (U p)
   connected None d done h = let k = last (unstruck d) h.1 in (k.0, (h.0, k.1))
@@ -86,17 +85,17 @@ module _ {P : Type 0} (N S : Midstep → Type 0) (T U : P → Midstep → Type 0
   released true time button d h = let k = last h.2 h.4 in (k.0, (h.0, h.1, h.2, h.3, k.1))
   released false time button d h = last (unstruck d) h
 
-  pub happened : (left : LeftOut) (act : Act) (done : Done) (d : Desktop) → HappensThen left act done d N S → (p : P) × HappensThen left act done d (T p) (U p)
-  happened left Connect done d h = connected (lowest d.clients) d done h
-  happened left (Feed c piece) done d h = absurd h
-  happened left (Store c store at bytes) done d h = changed _ _ c (client_at c d) d done h
-  happened left (Leave c) done d h = went c (client_at c d) d done h
-  happened left (Tick time) done d h = let k = next h.1.0 h.1.2 in (k.0, (h.0, (h.1.0, h.1.1, k.1)))
-  happened left (Send c n) done d h = changed _ _ c (client_at c d) d done h
-  happened left (Close c) done d h = changed _ _ c (client_at c d) d done h
-  happened left (Motion time x y) done d h = let k = last h.1.2 h.1.4 in (k.0, (h.0, (h.1.0, h.1.1, h.1.2, h.1.3, k.1)))
-  happened left (Button time button true) done d h = let k = pressed (is_press button d.pointer.buttons) time button d h.1 in (k.0, (h.0, k.1))
-  happened left (Button time button false) done d h = let k = released (is_down button d.pointer.buttons) time button d h.1 in (k.0, (h.0, k.1))
+  pub happened : (act : Act) (done : Done) (d : Desktop) → HappensThen act done d N S → (p : P) × HappensThen act done d (T p) (U p)
+  happened Connect done d h = connected (lowest d.clients) d done h
+  happened (Feed c piece) done d h = absurd h
+  happened (Store c store at bytes) done d h = changed _ _ c (client_at c d) d done h
+  happened (Leave c) done d h = went c (client_at c d) d done h
+  happened (Tick time) done d h = let k = next h.1.0 h.1.2 in (k.0, (h.0, (h.1.0, h.1.1, k.1)))
+  happened (Send c n) done d h = changed _ _ c (client_at c d) d done h
+  happened (Close c) done d h = changed _ _ c (client_at c d) d done h
+  happened (Motion time x y) done d h = let k = last h.1.2 h.1.4 in (k.0, (h.0, (h.1.0, h.1.1, h.1.2, h.1.3, k.1)))
+  happened (Button time button true) done d h = let k = pressed (is_press button d.pointer.buttons) time button d h.1 in (k.0, (h.0, k.1))
+  happened (Button time button false) done d h = let k = released (is_down button d.pointer.buttons) time button d h.1 in (k.0, (h.0, k.1))
 
 -- ---- the ends and settlings with the desktops on the way, and without
 
@@ -140,47 +139,35 @@ ending-with new mid h =
 -- ---- a message, and whatever else happens
 
 pub messages_lead_through : MessagesLeadThrough
-messages_lead_through left c d new = (
+messages_lead_through c d new = (
   λ path h. (served (settling_through path new) (settling_through path new) (λ (u : Unit {0}). settling new) (λ (u : Unit {0}). settling new)
-      (λ mid k. (tt, settling-without path new mid k)) (λ mid k. (tt, settling-without path new mid k)) left c (client_at c d) d h).1,
-  λ h. served (settling new) (settling new) (λ path. settling_through path new) (λ path. settling_through path new) (settling-with new) (settling-with new) left c (client_at c d) d h,
+      (λ mid k. (tt, settling-without path new mid k)) (λ mid k. (tt, settling-without path new mid k)) c (client_at c d) d h).1,
+  λ h. served (settling new) (settling new) (λ path. settling_through path new) (λ path. settling_through path new) (settling-with new) (settling-with new) c (client_at c d) d h,
 )
 
-as-happens : (left : LeftOut) (act : Act) (done : Done) (d new : Desktop) → HappensThen left act done d (settling new) (ending new) → Happens left act done d new
-as-happens left Connect done d new h = by (lowest d.clients) h
+as-happens : (act : Act) (done : Done) (d new : Desktop) → HappensThen act done d (settling new) (ending new) → Happens act done d new
+as-happens Connect done d new h = by (lowest d.clients) h
   where
     by : (k : Option ℕ) → ConnectsThen k d done (ending new) → ConnectsAt k d done new
     by None h = h
     by (Some n) h = h
-as-happens left (Feed c piece) done d new h = absurd h
-as-happens left (Store c store at bytes) done d new h = h
-as-happens left (Leave c) done d new h = h
-as-happens left (Tick time) done d new h = h
-as-happens left (Send c n) done d new h = h
-as-happens left (Close c) done d new h = h
-as-happens left (Motion time x y) done d new h = h
-as-happens left (Button time button pressed) done d new h = h
+as-happens (Feed c piece) done d new h = absurd h
+as-happens act done d new h = h
 
 -- a connect, in the form that takes what comes then
 pub connects-with : (k : Option ℕ) (d : Desktop) (done : Done) (new : Desktop) → ConnectsAt k d done new → ConnectsThen k d done (ending new)
 connects-with None d done new h = h
 connects-with (Some n) d done new h = h
 
-from-happens : (left : LeftOut) (act : Act) (done : Done) (d new : Desktop) → IsSingle act → Happens left act done d new → HappensThen left act done d (settling new) (ending new)
-from-happens left Connect done d new single h = connects-with (lowest d.clients) d done new h
-from-happens left (Feed c piece) done d new single h = absurd (single c piece refl)
-from-happens left (Store c store at bytes) done d new single h = h
-from-happens left (Leave c) done d new single h = h
-from-happens left (Tick time) done d new single h = h
-from-happens left (Send c n) done d new single h = h
-from-happens left (Close c) done d new single h = h
-from-happens left (Motion time x y) done d new single h = h
-from-happens left (Button time button pressed) done d new single h = h
+from-happens : (act : Act) (done : Done) (d new : Desktop) → IsSingle act → Happens act done d new → HappensThen act done d (settling new) (ending new)
+from-happens Connect done d new single h = connects-with (lowest d.clients) d done new h
+from-happens (Feed c piece) done d new single h = absurd (single c piece refl)
+from-happens act done d new single h = h
 
 pub happens_leads_through : HappensLeadsThrough
-happens_leads_through left act done d new = (
-  λ path h. as-happens left act done d new (happened (settling_through path new) (ending_through path new) (λ (u : Unit {0}). settling new) (λ (u : Unit {0}). ending new)
-      (λ mid k. (tt, settling-without path new mid k)) (λ mid k. (tt, ending-without path new mid k)) left act done d h).1,
-  λ single h. happened (settling new) (ending new) (λ path. settling_through path new) (λ path. ending_through path new) (settling-with new) (ending-with new) left act done d
-      (from-happens left act done d new single h),
+happens_leads_through act done d new = (
+  λ path h. as-happens act done d new (happened (settling_through path new) (ending_through path new) (λ (u : Unit {0}). settling new) (λ (u : Unit {0}). ending new)
+      (λ mid k. (tt, settling-without path new mid k)) (λ mid k. (tt, ending-without path new mid k)) act done d h).1,
+  λ single h. happened (settling new) (ending new) (λ path. settling_through path new) (λ path. ending_through path new) (settling-with new) (ending-with new) act done d
+      (from-happens act done d new single h),
 )

@@ -192,9 +192,7 @@ acknowledging-less serial y = less-same _ _ (at (up_to serial y.configures) y.ro
   where
     by : (b : Bool) (s : Stage) → table b (Some (acknowledged s)) ≡ table b (Some s)
     by b stage.Fresh = refl
-    by b stage.Waiting = refl
-    by b stage.Ready = refl
-    by b stage.Mapped = refl
+    by b s = refl
 
     heeded : (top b : Bool) (s : Stage) → table top (cond b None (Some (acknowledged s))) ≡ table top (cond b None (Some s))
     heeded top true s = refl

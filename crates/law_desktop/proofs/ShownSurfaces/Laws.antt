@@ -1,4 +1,4 @@
--- Which toplevels stand and which surfaces show a buffer is kept by each step, and by each message by itself, whatever is left out.
+-- Which toplevels stand and which surfaces show a buffer is kept by each step, and by each message by itself.
 use Rattle.std.proofs.Common.{◌≡◌, ◌≤◌, ℕ, ◌+◌, List, [], Option, Some, None, refl, ap, sym, subst, ◌∙◌, arith}
 use Rattle.std.proofs.lemmas.Bool.{true≢false}
 use Rattle.std.proofs.lemmas.Option.{none-some}
@@ -13,7 +13,6 @@ use Rattle.spec_desktop.specs.Changing.{changed_for, stacked_for}
 use Rattle.spec_desktop.specs.Demand.{Demand}
 use Rattle.spec_desktop.specs.Demanding.{judge_all}
 use Rattle.spec_desktop.specs.Desktop.{Desktop, Resident, arrival, client_at, owned_of, resident_of, toplevels_of}
-use Rattle.spec_desktop.specs.LeftOut.{LeftOut}
 use Rattle.spec_desktop.specs.Stacked.{all_windows}
 use Rattle.spec_desktop.specs.Step.{with_peer}
 use Rattle.law_desktop.specs.Laws.{AreApart}
@@ -78,14 +77,14 @@ is-rooted r rest owns = record {
 }
 
 -- What is demanded of a client leaves its toplevels standing as they should.
-pub demand-shown : (left : LeftOut) (c : ℕ) (r : Resident) (rest : List ℕ) (object opcode : ℕ) (body : List ℕ) (demand : Demand) (d : Desktop)
-    → judge_all left r object opcode body ≡ Ok demand → OwnsInOrder r → AllFit c r.owned d.standing → AreTurned r.owned.surfaces
+pub demand-shown : (c : ℕ) (r : Resident) (rest : List ℕ) (object opcode : ℕ) (body : List ℕ) (demand : Demand) (d : Desktop)
+    → judge_all r object opcode body ≡ Ok demand → OwnsInOrder r → AllFit c r.owned d.standing → AreTurned r.owned.surfaces
     → AllFit c (changed_for c demand (counted_of r rest) d).owned (stacked_for c demand (counted_of r rest) (all_windows d) d).standing
     × AreTurned (changed_for c demand (counted_of r rest) d).owned.surfaces
-demand-shown left c r rest object opcode body demand d judged owns fit turned =
-    let fits = well-counted r rest demand (well r left object opcode body demand judged) in (
+demand-shown c r rest object opcode body demand d judged owns fit turned =
+    let fits = well-counted r rest demand (well r object opcode body demand judged) in (
       demand-fits c (counted_of r rest) d (is-rooted r rest owns) fit demand (all_windows d)
-          (allowed-counted r rest demand (allowed left r object opcode body demand judged)) fits,
+          (allowed-counted r rest demand (allowed r object opcode body demand judged)) fits,
       demand-turned c demand (counted_of r rest) d turned fits,
     )
 
@@ -117,12 +116,12 @@ shown-kept = record {
   framed = λ r tops lives. (framed-lives r tops lives.0, lives.1, lives.2);
 }
 
-demands-shown : (left : LeftOut) → DemandsKeep left ShownBy
-demands-shown left c r rest object opcode body demand d judged still lives =
-    let now = demand-shown left c r rest object opcode body demand d judged lives.0.0 (of-tops c r.owned d lives.1) lives.2 in (
+demands-shown : DemandsKeep ShownBy
+demands-shown c r rest object opcode body demand d judged still lives =
+    let now = demand-shown c r rest object opcode body demand d judged lives.0.0 (of-tops c r.owned d lives.1) lives.2 in (
       (
-        demand-owns left c r rest object opcode body demand d judged lives.0.0,
-        demand-stands left c r rest object opcode body demand d judged lives.0.0 lives.0.1,
+        demand-owns c r rest object opcode body demand d judged lives.0.0,
+        demand-stands c r rest object opcode body demand d judged lives.0.0 lives.0.1,
       ),
       to-tops c (changed_for c demand (counted_of r rest) d).owned (stacked_for c demand (counted_of r rest) (all_windows d) d) now.0,
       now.1,
@@ -173,11 +172,11 @@ pub empty_is_shown : EmptyIsShown
 empty_is_shown output = of-all _ (empty-all NoneStands ShownBy shown-kept output)
 
 pub shown_stays : ShownStays
-shown_stays left act done d e leaves order stand h =
-    of-all e (happens-keeps NoneStands ShownBy shown-kept left (demands-shown left) act done d e leaves (to-all d order stand) h)
+shown_stays act done d e leaves order stand h =
+    of-all e (happens-keeps NoneStands ShownBy shown-kept demands-shown act done d e leaves (to-all d order stand) h)
 
 pub messages_keep_shown : MessagesKeepShown
-messages_keep_shown left c d e order stand h = of-all e (serves-keeps NoneStands ShownBy shown-kept left (demands-shown left) c d e (to-all d order stand) h)
+messages_keep_shown c d e order stand h = of-all e (serves-keeps NoneStands ShownBy shown-kept demands-shown c d e (to-all d order stand) h)
 
 pub pieces_keep_shown : PiecesKeepShown
 pieces_keep_shown c r bytes d order stand is = of-all _ (piece-keeps NoneStands ShownBy shown-kept c r bytes d (to-all d order stand) is)

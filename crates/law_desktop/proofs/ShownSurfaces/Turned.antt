@@ -20,7 +20,7 @@ use Rattle.wl_shell.specs.Popups.{Popped, copying, is_configured, popup_at, repo
 use Rattle.spec_desktop.specs.Ask.{Ask, AskSurface, CreateSurface, GetToplevel}
 use Rattle.spec_desktop.specs.Changing.{Placing, changed_for, drawing, effect_placing, grab_allowed, grabbed, has_focus, in_rising_order, link_with_id, mode_set, placement_now, popup_given_to}
 use Rattle.spec_desktop.specs.Changing.{tree_committed, unlinked_at, popup_repositioned}
-use Rattle.spec_desktop.specs.Demand.{AskFrame, Asks, CommitTree, Demand, EndPopup, EndSubsurface, EndSurface, EndToplevel, GetPointer, GetPopup, GetSubsurface, Grab, MakeCursor, Move, SetMode}
+use Rattle.spec_desktop.specs.Demand.{AskFrame, Asks, CommitTree, Demand, EndSubsurface, EndSurface, GetPointer, GetPopup, GetSubsurface, Grab, MakeCursor, SetMode}
 use Rattle.spec_desktop.specs.Demand.{Reposition}
 use Rattle.spec_desktop.specs.Demanding.{effect_of_commit}
 use Rattle.spec_desktop.specs.Desktop.{Desktop, Resident}
@@ -170,6 +170,4 @@ demand-turned c (MakeCursor surface) r d is well = λ other. subst IsTurned (sym
 demand-turned c (GetPopup id version xdg parent p) r d is well = popup-turned id xdg parent p (xdg_at xdg r.owned.shell) r is
 demand-turned c (Reposition xdg token p) r d is well = repositioned-turned (placement_now c r d) p (popup_at xdg r.owned.shell) r is
 demand-turned c (Grab xdg serial) r d is well = grabbed-turned (grab_allowed c xdg serial r d) xdg r is
-demand-turned c (EndPopup id xdg) r d is well = is
-demand-turned c (EndToplevel id xdg top) r d is well = is
-demand-turned c (Move surface serial) r d is well = is
+demand-turned c demand r d is well = is

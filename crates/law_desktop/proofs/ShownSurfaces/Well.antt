@@ -50,7 +50,6 @@ use Rattle.spec_desktop.specs.Step.{with_peer}
 use Rattle.spec_desktop.specs.XdgPopup.{grab_of, is_no_popup, may_be_parent, popup_asked, popup_destroyed, popup_made, positioner_of, repositioned_by}
 use Rattle.spec_desktop.specs.XdgShell.{has_any, is_foreign, is_no_toplevel, role_of, state_asked}
 use Rattle.law_desktop.specs.Standing.{turns_well}
-use Rattle.spec_desktop.specs.LeftOut.{LeftOut}
 
 abbrev pub IsWell : Resident → Demand → Type 0
 IsWell r (Asks (AskSurface id request)) = turns_well request ≡ true
@@ -111,11 +110,7 @@ module _ (r : Resident) where
       whole-well (will_be_whole r object) object _ (commit-well (xdg_of object r.owned.shell) object (effect_of_commit r object) refl refl)
   surface-well object version (surface.SetBufferTransform transform) = transform-well object transform
   surface-well object version (surface.SetBufferScale scale) = scale-well object scale
-  surface-well object version (surface.Attach buffer x y) = refl
-  surface-well object version (surface.Damage x y width height) = refl
-  surface-well object version (surface.DamageBuffer x y width height) = refl
-  surface-well object version (surface.SetOpaqueRegion region) = refl
-  surface-well object version (surface.SetInputRegion region) = refl
+  surface-well object version request = refl
 
   -- ---- subsurfaces
 
@@ -239,9 +234,8 @@ module _ (r : Resident) where
   interface-well (ToPopup request) object version = popup-asked-well object (xdg_with object r.owned.shell) request
   interface-well request object version = own-well object version request
 
-  demand-well : (left : LeftOut) (object version : ℕ) (m : Message) → IsWellSo r (demand_of left r object version m)
-  demand-well left object version m =
-      if-well (left.requests (request_of m)) _ _ (λ out. tt) (λ served. interface-well (request_of m) object version)
+  demand-well : (object version : ℕ) (m : Message) → IsWellSo r (demand_of r object version m)
+  demand-well object version m = interface-well (request_of m) object version
 
   -- ---- the judgement
 
@@ -256,15 +250,15 @@ module _ (r : Resident) where
   judged-well objects held demand (Ok m) well =
       if-well (list_all (fits objects) (objects_named m)) _ _ (λ fit. new_id-well objects held (new_id_in m) (demand m) (well m)) (λ unfit. tt)
 
-  judged_at-well : (left : LeftOut) (object opcode : ℕ) (body : List ℕ) (o : Option Object)
-      → IsWellSo r (judged_at r.peer.objects r.peer.held (λ version m. demand_of left r object version m) opcode body o)
-  judged_at-well left object opcode body None = tt
-  judged_at-well left object opcode body (Some o) =
-      judged-well r.peer.objects r.peer.held (λ m. demand_of left r object o.version m) (decoded o.interface o.version opcode body) (λ m. demand-well left object o.version m)
+  judged_at-well : (object opcode : ℕ) (body : List ℕ) (o : Option Object)
+      → IsWellSo r (judged_at r.peer.objects r.peer.held (λ version m. demand_of r object version m) opcode body o)
+  judged_at-well object opcode body None = tt
+  judged_at-well object opcode body (Some o) =
+      judged-well r.peer.objects r.peer.held (λ m. demand_of r object o.version m) (decoded o.interface o.version opcode body) (λ m. demand-well object o.version m)
 
   -- a message that is accepted is so
-  pub well : (left : LeftOut) (object opcode : ℕ) (body : List ℕ) (demand : Demand) → judge_all left r object opcode body ≡ Ok demand → IsWell r demand
-  well left object opcode body demand e = subst (IsWellSo r) e (judged_at-well left object opcode body (r.peer.objects object))
+  pub well : (object opcode : ℕ) (body : List ℕ) (demand : Demand) → judge_all r object opcode body ≡ Ok demand → IsWell r demand
+  well object opcode body demand e = subst (IsWellSo r) e (judged_at-well object opcode body (r.peer.objects object))
 
 -- with its request counted and its bytes taken too
 pub well-counted : (r : Resident) (rest : List ℕ) (demand : Demand) → IsWell r demand → IsWell (with_peer (counted (with_rest rest r.peer)) r) demand

@@ -21,7 +21,6 @@ use Rattle.wl_shell.specs.Shell.{Effect, Stays, Unconfigured, Configures, Maps, 
 use Rattle.spec_desktop.specs.Demand.{Demand}
 use Rattle.spec_desktop.specs.Demanding.{committed_by, demand_by, demand_of, effect_of_commit, judge_all, moved_by_pointer, surface_demand, toplevel_asked, toplevel_destroyed}
 use Rattle.spec_desktop.specs.Desktop.{Resident, Subsurface}
-use Rattle.spec_desktop.specs.LeftOut.{LeftOut}
 use Rattle.spec_desktop.specs.ToplevelRequest.{ToplevelRequest}
 use Rattle.spec_desktop.specs.ToplevelRequest as toplevel
 use Rattle.spec_desktop.specs.WlPointer.{is_no_cursor, pointer_demand, seat_demand}
@@ -61,18 +60,14 @@ surface-allowed : (r : Resident) (object version opcode : ℕ) (fields : List Fi
     → Allows r (surface_demand r object version (surface_request opcode fields))
 surface-allowed r object version zero fields heard =
     either r (is_some (xdg_of object r.owned.shell)) _ _ (λ f. tt) (λ f. (heard.live, none-there (xdg_of object r.owned.shell) f))
-surface-allowed r object version (suc zero) fields heard = tt
-surface-allowed r object version (suc (suc zero)) fields heard = tt
 surface-allowed r object version (suc (suc (suc zero))) fields heard = fresh-first r.peer.objects _ [] _ fields heard.kinds heard.fresh
-surface-allowed r object version (suc (suc (suc (suc zero)))) fields heard = tt
-surface-allowed r object version (suc (suc (suc (suc (suc zero))))) fields heard = tt
 surface-allowed r object version (suc (suc (suc (suc (suc (suc zero)))))) fields heard =
     whole-allowed r (will_be_whole r object) object _ (committed-allowed r (xdg_of object r.owned.shell) object (effect_of_commit r object))
 surface-allowed r object version (suc (suc (suc (suc (suc (suc (suc zero))))))) fields heard =
     ask-either r (int_le (pos 0) (number_in 0 fields) && int_le (number_in 0 fields) (pos 7)) _ _ (λ l. tt) (λ l. tt)
 surface-allowed r object version (suc (suc (suc (suc (suc (suc (suc (suc zero)))))))) fields heard = ask-either r (int_le (pos 1) (number_in 0 fields)) _ _ (λ l. tt) (λ l. tt)
-surface-allowed r object version (suc (suc (suc (suc (suc (suc (suc (suc (suc zero))))))))) fields heard = tt
 surface-allowed r object version (suc (suc (suc (suc (suc (suc (suc (suc (suc (suc opcode)))))))))) fields heard = absurd heard.kinds
+surface-allowed r object version opcode fields heard = tt
 
 -- ---- subsurfaces
 
@@ -229,8 +224,8 @@ demanded-allowed WlBuffer r object version opcode fields heard = own-allowed-so 
 demanded-allowed WlOutput r object version opcode fields heard = own-allowed-so WlOutput r object version opcode fields heard
 
 -- what is known of an accepted message
-pub allowed : (left : LeftOut) (r : Resident) (object opcode : ℕ) (body : List ℕ) (demand : Demand) → judge_all left r object opcode body ≡ Ok demand → IsAllowed r demand
-allowed left r object opcode body demand e =
-    let heard = judged-hears r.peer.objects r.peer.held object opcode (λ version m. demand_of left r object version m) body demand e in
+pub allowed : (r : Resident) (object opcode : ℕ) (body : List ℕ) (demand : Demand) → judge_all r object opcode body ≡ Ok demand → IsAllowed r demand
+allowed r object opcode body demand e =
+    let heard = judged-hears r.peer.objects r.peer.held object opcode (λ version m. demand_of r object version m) body demand e in
     let interface = heard.0.interface in
-    subst (λ o. Allows r o) heard.3 (either r (left.requests (request_in interface opcode heard.1)) _ _ (λ f. tt) (λ f. demanded-allowed interface r object heard.0.version opcode heard.1 heard.2))
+    subst (λ o. Allows r o) heard.3 (demanded-allowed interface r object heard.0.version opcode heard.1 heard.2)

@@ -4,7 +4,7 @@ use Rattle.std.proofs.Common.{◌≡◌, ℕ, List, ◌∷◌, Bool, true, false
 use Rattle.std.specs.Prelude.{Ok, Err, ◌==◌, if◌then◌else◌, nat_le, slice_get}
 use Rattle.std.specs.List.{list_all}
 use Rattle.wl_wire.specs.declared.error.ArgError.{ArgError}
-use Rattle.wl_wire.specs.Wire.{Field, Word, Number, Text, Block, Kind, AWord, AText, fields_at, kind_of}
+use Rattle.wl_wire.specs.Wire.{Field, Word, Text, Kind, AWord, AText, fields_at, kind_of}
 use Rattle.wl_proto.specs.declared.argument.NewId.{NewId}
 use Rattle.wl_proto.specs.declared.error.ProtoError.{ProtoError}
 use Rattle.wl_proto.specs.declared.interface.Interface.{Interface}
@@ -134,29 +134,14 @@ judged-hears {X = X} objects held object opcode asks body x e = at (objects obje
 -- a new id in front
 pub fresh-first : (objects : Objects) (interface : Option Interface) (arguments : List Argument) (kinds : List Kind) (fields : List Field) → map kind_of fields ≡ AWord ∷ kinds
     → IsFresh objects (new_id_of (ANewId interface ∷ arguments) fields) → is_free objects (word_in 0 fields) ≡ true
-fresh-first objects interface arguments kinds [] e fresh = absurd (cc)
 fresh-first objects interface arguments kinds (Word n ∷ fields) e fresh = fresh
-fresh-first objects interface arguments kinds (Number z ∷ fields) e fresh = absurd (cc)
-fresh-first objects interface arguments kinds (Text t ∷ fields) e fresh = absurd (cc)
-fresh-first objects interface arguments kinds (Block b ∷ fields) e fresh = absurd (cc)
+fresh-first objects interface arguments kinds fields e fresh = absurd (cc)
 
 -- the new id of wl_registry.bind
 pub fresh-bound : (objects : Objects) (fields : List Field) → map kind_of fields ≡ AWord ∷ AText ∷ AWord ∷ AWord ∷ [] → IsFresh objects (new_id_of (AUint ∷ ANewObject ∷ []) fields)
     → is_free objects (word_in 3 fields) ≡ true
-fresh-bound objects [] e fresh = absurd (cc)
-fresh-bound objects (first ∷ []) e fresh = absurd (cc)
-fresh-bound objects (first ∷ second ∷ []) e fresh = absurd (cc)
-fresh-bound objects (first ∷ second ∷ third ∷ []) e fresh = absurd (cc)
 fresh-bound objects (first ∷ Text t ∷ Word v ∷ Word n ∷ fields) e fresh = fresh
-fresh-bound objects (first ∷ Text t ∷ Word v ∷ Number z ∷ fields) e fresh = absurd (cc)
-fresh-bound objects (first ∷ Text t ∷ Word v ∷ Text u ∷ fields) e fresh = absurd (cc)
-fresh-bound objects (first ∷ Text t ∷ Word v ∷ Block b ∷ fields) e fresh = absurd (cc)
-fresh-bound objects (first ∷ Text t ∷ Number z ∷ fourth ∷ fields) e fresh = absurd (cc)
-fresh-bound objects (first ∷ Text t ∷ Text u ∷ fourth ∷ fields) e fresh = absurd (cc)
-fresh-bound objects (first ∷ Text t ∷ Block b ∷ fourth ∷ fields) e fresh = absurd (cc)
-fresh-bound objects (first ∷ Word n ∷ third ∷ fourth ∷ fields) e fresh = absurd (cc)
-fresh-bound objects (first ∷ Number z ∷ third ∷ fourth ∷ fields) e fresh = absurd (cc)
-fresh-bound objects (first ∷ Block b ∷ third ∷ fourth ∷ fields) e fresh = absurd (cc)
+fresh-bound objects fields e fresh = absurd (cc)
 
 pub fit-here : (b : Bool) (x : Bool) → (if b then false else x) ≡ true → x ≡ true
 fit-here true x e = absurd (cc)
@@ -166,13 +151,6 @@ fit-here false x e = e
 pub named-second : (objects : Objects) (new : Option Interface) (interface : Interface) (arguments : List Argument) (kinds : List Kind) (fields : List Field)
     → map kind_of fields ≡ AWord ∷ AWord ∷ kinds → list_all (fits objects) (objects_of (ANewId new ∷ AnObject interface false ∷ arguments) fields) ≡ true
     → is_of interface (objects (word_in 1 fields)) ≡ true
-named-second objects new interface arguments kinds [] e named = absurd (cc)
-named-second objects new interface arguments kinds (first ∷ []) e named = absurd (cc)
 named-second objects new interface arguments kinds (Word n ∷ Word id ∷ fields) e named =
     fit-here (id == 0) (is_of interface (objects id)) (and-left _ (list_all (fits objects) (objects_of arguments fields)) named)
-named-second objects new interface arguments kinds (Number z ∷ second ∷ fields) e named = absurd (cc)
-named-second objects new interface arguments kinds (Text t ∷ second ∷ fields) e named = absurd (cc)
-named-second objects new interface arguments kinds (Block b ∷ second ∷ fields) e named = absurd (cc)
-named-second objects new interface arguments kinds (Word n ∷ Number z ∷ fields) e named = absurd (cc)
-named-second objects new interface arguments kinds (Word n ∷ Text t ∷ fields) e named = absurd (cc)
-named-second objects new interface arguments kinds (Word n ∷ Block b ∷ fields) e named = absurd (cc)
+named-second objects new interface arguments kinds fields e named = absurd (cc)

@@ -130,11 +130,9 @@ buffer-allowed r object (Some buffer) live = live
 
 base-allowed : (r : Resident) (object opcode : ℕ) (fields : List Field) → IsHeardBy XdgWmBase r object opcode fields → (known : Known) (version : ℕ)
     → AllowsOwn r (action_of known object version (request_in XdgWmBase opcode fields))
-base-allowed r object zero fields heard known version = tt
 base-allowed r object (suc zero) fields heard known version = fresh-first r.peer.objects _ [] [] fields heard.kinds heard.fresh
-base-allowed r object (suc (suc zero)) fields heard known version = tt
-base-allowed r object (suc (suc (suc zero))) fields heard known version = tt
 base-allowed r object (suc (suc (suc (suc opcode)))) fields heard known version = absurd heard.kinds
+base-allowed r object opcode fields heard known version = tt
 
 set-allowed : (r : Resident) (object : ℕ) (setting : Setting) → AllowsOwn r (set_if_allowed object setting)
 set-allowed r object setting = own-either r (is_allowed setting) _ _ (λ e. tt) (λ e. tt)

@@ -2,17 +2,16 @@
 use Rattle.std.proofs.Common.{◌≡◌, ℕ, ◌+◌, List, Bool, true, false, Option, Some, None, refl, ap, sym, subst, ◌∙◌, arith}
 use Rattle.std.specs.Prelude.{◌==◌, ◌&&◌}
 use Rattle.spec_desktop.specs.declared.actions.Action.{Action}
-use Rattle.spec_desktop.specs.declared.actions.Action.TheVariants.{Sync, GetRegistry, Bind, CreateRegion, AddToRegion, SubtractFromRegion, DestroyRegion, CreatePool, CreateBuffer, ResizePool, DestroyPool}
-use Rattle.spec_desktop.specs.declared.actions.Action.TheVariants.{DestroyBuffer, CreatePositioner, SetPositioner, DestroyPositioner}
+use Rattle.spec_desktop.specs.declared.actions.Action.TheVariants.{Sync}
 use Rattle.spec_desktop.specs.Peer.{counted, with_rest}
 use Rattle.wl_surface.specs.Request.{Frame}
 use Rattle.wl_surface.specs.Surfaces.{Link, Surfaces}
 use Rattle.wl_shell.specs.Positioner.{Positioner}
 use Rattle.wl_shell.specs.Shell.{XdgSurface as Xdg, xdg_at, xdg_of}
-use Rattle.spec_desktop.specs.Ask.{Ask, Own, CreateSurface, AskSurface, EndObject, GetXdgSurface, DestroyXdgSurface, GetToplevel, Acknowledge, ConfigureAgain, Ignore}
+use Rattle.spec_desktop.specs.Ask.{Ask, Own, CreateSurface, AskSurface, GetToplevel}
 use Rattle.spec_desktop.specs.Changing.{Placing, placement_now, changed_for, drawing, grab_allowed, grabbed, has_focus, in_rising_order, link_with_id, popup_given_to, tree_committed}
 use Rattle.spec_desktop.specs.Demand.{Demand, Asks, EndSurface, AskFrame, CommitTree, GetSubsurface, EndSubsurface, SetMode, GetPointer, MakeCursor}
-use Rattle.spec_desktop.specs.Demand.{GetPopup, Grab, EndPopup, EndToplevel, Move}
+use Rattle.spec_desktop.specs.Demand.{GetPopup, Grab}
 use Rattle.spec_desktop.specs.Demanding.{effect_of_commit}
 use Rattle.spec_desktop.specs.Desktop.{Desktop, Resident}
 use Rattle.law_desktop.specs.Soundness.{IsLive}
@@ -42,49 +41,15 @@ module _ (r : Resident) (rest : List ℕ) where
 
   own-counted : (action : Action) → IsOwn r action → IsOwn Counted action
   own-counted (Sync id) h = h
-  own-counted (GetRegistry id) h = h
-  own-counted (Bind id interface version) h = h
-  own-counted (CreateRegion id version) h = h
-  own-counted (AddToRegion id rect) h = h
-  own-counted (SubtractFromRegion id rect) h = h
-  own-counted (DestroyRegion id) h = h
-  own-counted (CreatePool id version size) h = h
-  own-counted (CreateBuffer id version laid) h = h
-  own-counted (ResizePool store size) h = h
-  own-counted (DestroyPool id store) h = h
-  own-counted (CreatePositioner id version) h = h
-  own-counted (SetPositioner id setting) h = h
-  own-counted (DestroyPositioner id) h = h
-  own-counted (DestroyBuffer id store) h = h
+  own-counted action h = h
 
   asked-counted : (ask : Ask) → IsAsked r ask → IsAsked Counted ask
   asked-counted (Own action) h = own-counted action h
-  asked-counted (CreateSurface id version) h = h
-  asked-counted (AskSurface id request) h = h
-  asked-counted (EndObject id) h = h
-  asked-counted (GetXdgSurface id version base surface) h = h
-  asked-counted (DestroyXdgSurface id) h = h
-  asked-counted (GetToplevel id version xdg) h = h
-  asked-counted (Acknowledge xdg serial) h = h
-  asked-counted (ConfigureAgain xdg) h = h
-  asked-counted Ignore h = h
+  asked-counted ask h = h
 
   pub allowed-counted : (demand : Demand) → IsAllowed r demand → IsAllowed Counted demand
   allowed-counted (Asks ask) h = asked-counted ask h
-  allowed-counted (EndSurface id) h = h
-  allowed-counted (AskFrame id version surface) h = h
-  allowed-counted (CommitTree surface) h = h
-  allowed-counted (GetSubsurface id version child parent) h = h
-  allowed-counted (EndSubsurface id) h = h
-  allowed-counted (SetMode link synchronised) h = h
-  allowed-counted (GetPointer id version) h = h
-  allowed-counted (MakeCursor surface) h = h
-  allowed-counted (GetPopup id version xdg parent p) h = h
-  allowed-counted (Reposition xdg token p) h = h
-  allowed-counted (Grab xdg serial) h = h
-  allowed-counted (EndPopup id xdg) h = h
-  allowed-counted (EndToplevel id xdg top) h = h
-  allowed-counted (Move surface serial) h = h
+  allowed-counted demand h = h
 
 -- ---- the links make trees
 
@@ -126,16 +91,10 @@ module _ (b : ℕ) where
   popup-forest id xdg parent p (Some x) r forest = next _ (forest-role b x.surface _ r.owned.surfaces forest)
 
   asked-forest : (ask : Ask) (r : Resident) → IsAsked r ask → IsForest b r.owned.surfaces → IsForest (b + 1) (changed_by ask r).owned.surfaces
-  asked-forest (Own action) r ok forest = next r.owned.surfaces forest
   asked-forest (CreateSurface id version) r ok forest = next _ (forest-new b id r.owned.surfaces forest)
   asked-forest (AskSurface id request) r ok forest = next _ (forest-asked b id request r.owned.surfaces ok forest)
-  asked-forest (EndObject id) r ok forest = next r.owned.surfaces forest
-  asked-forest (GetXdgSurface id version base surface) r ok forest = next r.owned.surfaces forest
-  asked-forest (DestroyXdgSurface id) r ok forest = next r.owned.surfaces forest
   asked-forest (GetToplevel id version xdg) r ok forest = toplevel-forest id xdg (xdg_at xdg r.owned.shell) r forest
-  asked-forest (Acknowledge xdg serial) r ok forest = next r.owned.surfaces forest
-  asked-forest (ConfigureAgain xdg) r ok forest = next r.owned.surfaces forest
-  asked-forest Ignore r ok forest = next r.owned.surfaces forest
+  asked-forest ask r ok forest = next r.owned.surfaces forest
 
 pub forest-kept : (c : ℕ) (demand : Demand) (r : Resident) (d : Desktop) → IsAllowed r demand → HasRoles r → IsForest r.peer.requests r.owned.surfaces
     → IsForest (r.peer.requests + 1) (changed_for c demand r d).owned.surfaces
@@ -160,16 +119,14 @@ forest-kept c (Reposition xdg token p) r d ok roles forest =
     by-same r.peer.requests r.owned.surfaces _ (repositioned-surfaces (placement_now c r d) p (popup_at xdg r.owned.shell) r) forest
 forest-kept c (Grab xdg serial) r d ok roles forest =
     by-same r.peer.requests r.owned.surfaces _ (grab-surfaces (grab_allowed c xdg serial r d) xdg r) forest
-forest-kept c (EndPopup id xdg) r d ok roles forest = next r.peer.requests r.owned.surfaces forest
-forest-kept c (EndToplevel id xdg top) r d ok roles forest = next r.peer.requests r.owned.surfaces forest
-forest-kept c (Move surface serial) r d ok roles forest = next r.peer.requests r.owned.surfaces forest
+forest-kept c demand r d ok roles forest = next r.peer.requests r.owned.surfaces forest
 
 -- ---- all of it
 
 pub message-keeps : MessageKeeps
-message-keeps left c r rest object opcode body demand windows d judged known =
+message-keeps c r rest object opcode body demand windows d judged known =
     let s : Resident = with_peer (counted (with_rest rest r.peer)) r in
-    let ok : IsAllowed s demand = allowed-counted r rest demand (allowed left r object opcode body demand judged) in
+    let ok : IsAllowed s demand = allowed-counted r rest demand (allowed r object opcode body demand judged) in
     let objects : HasObjects s = objects-same r s refl refl refl refl known.objects in
     let roles : HasRoles s = roles-same r s refl refl known.roles in
     record {

@@ -5,8 +5,8 @@ use Rattle.std.specs.Prelude.{◌==◌, filter}
 use Rattle.wl_proto.specs.declared.interface.Interface.{Interface}
 use Rattle.wl_proto.specs.declared.interface.Interface.TheVariants as of
 use Rattle.spec_desktop.specs.declared.actions.Action.{Action}
-use Rattle.spec_desktop.specs.declared.actions.Action.TheVariants.{Sync, GetRegistry, Bind, CreateRegion, AddToRegion, SubtractFromRegion, DestroyRegion, CreatePool, CreateBuffer, ResizePool, DestroyPool}
-use Rattle.spec_desktop.specs.declared.actions.Action.TheVariants.{DestroyBuffer, CreatePositioner, SetPositioner, DestroyPositioner}
+use Rattle.spec_desktop.specs.declared.actions.Action.TheVariants.{GetRegistry, Bind, CreateRegion, DestroyRegion, CreatePool, CreateBuffer, DestroyPool}
+use Rattle.spec_desktop.specs.declared.actions.Action.TheVariants.{DestroyBuffer, CreatePositioner, DestroyPositioner}
 use Rattle.spec_desktop.specs.Objects.{Objects, is_of, with_id}
 use Rattle.spec_desktop.specs.Peer.{Peer, object_at_version, changed}
 use Rattle.spec_desktop.specs.Used.{changed_with, has_used, keeps_store}
@@ -120,26 +120,22 @@ not-surface of.WlSurface version e = absurd (true≢false (sym e))
 not-surface interface version e = refl
 
 own-has : (used : ℕ → Bool) (action : Action) (r : Resident) → IsOwn r action → HasOf r → Has (changed_with used action r.peer).objects r.owned.surfaces r.subsurfaces r.owned.shell r.callbacks
-own-has used (Sync callback) r ok h = h
 own-has used (GetRegistry id) r ok h = has-object r.peer.objects r.owned.surfaces r.subsurfaces r.owned.shell r.callbacks h id 1 ok of.WlRegistry refl
 own-has used (Bind id interface version) r ok h =
     has-object r.peer.objects r.owned.surfaces r.subsurfaces r.owned.shell r.callbacks h id version ok.0 interface (not-surface interface version ok.1)
 own-has used (CreateRegion id version) r ok h = has-object r.peer.objects r.owned.surfaces r.subsurfaces r.owned.shell r.callbacks h id version ok of.WlRegion refl
-own-has used (AddToRegion id rect) r ok h = h
-own-has used (SubtractFromRegion id rect) r ok h = h
 own-has used (DestroyRegion id) r ok h = has-object-gone r.peer.objects r.owned.surfaces r.subsurfaces r.owned.shell r.callbacks h id of.WlRegion refl refl refl refl refl ok
 own-has used (CreatePool id version size) r ok h = has-object r.peer.objects r.owned.surfaces r.subsurfaces r.owned.shell r.callbacks h id version ok of.WlShmPool refl
 own-has used (CreateBuffer id version laid) r ok h = has-object r.peer.objects r.owned.surfaces r.subsurfaces r.owned.shell r.callbacks h id version ok of.WlBuffer refl
-own-has used (ResizePool store size) r ok h = h
 own-has used (DestroyPool id store) r ok h = has-object-gone r.peer.objects r.owned.surfaces r.subsurfaces r.owned.shell r.callbacks h id of.WlShmPool refl refl refl refl refl ok
 own-has used (CreatePositioner id version) r ok h = has-object r.peer.objects r.owned.surfaces r.subsurfaces r.owned.shell r.callbacks h id version ok of.XdgPositioner refl
-own-has used (SetPositioner id setting) r ok h = h
 own-has used (DestroyPositioner id) r ok h = has-object-gone r.peer.objects r.owned.surfaces r.subsurfaces r.owned.shell r.callbacks h id of.XdgPositioner refl refl refl refl refl ok
 own-has used (DestroyBuffer id store) r ok h = at (has_used used (r.peer.buffers id))
   where
     at : (b : Bool) → Has (keeps_store b r.peer.stores (changed (DestroyBuffer id store) r.peer)).objects r.owned.surfaces r.subsurfaces r.owned.shell r.callbacks
     at true = has-object-gone r.peer.objects r.owned.surfaces r.subsurfaces r.owned.shell r.callbacks h id of.WlBuffer refl refl refl refl refl ok
     at false = has-object-gone r.peer.objects r.owned.surfaces r.subsurfaces r.owned.shell r.callbacks h id of.WlBuffer refl refl refl refl refl ok
+own-has used action r ok h = h
 
 surface-made : (id version : ℕ) (r : Resident) → IsNew id r → HasOf r
     → Has (with_id id (Some (object_at_version of.WlSurface version)) r.peer.objects) (with_new id r.owned.surfaces) r.subsurfaces r.owned.shell r.callbacks

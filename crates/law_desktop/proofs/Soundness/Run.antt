@@ -13,8 +13,7 @@ use Rattle.spec_desktop.specs.Pointer.{hit_now, is_down, is_press}
 use Rattle.spec_desktop.specs.Stacking.{Standing}
 use Rattle.spec_desktop.specs.Windows.{Place}
 use Rattle.spec_desktop.specs.declared.answers.Done.{Done}
-use Rattle.spec_desktop.specs.Desktop.{Desktop, Resident, arrival, client_at, empty, place, with_client, toplevels_of}
-use Rattle.spec_desktop.specs.LeftOut.{LeftOut}
+use Rattle.spec_desktop.specs.Desktop.{Desktop, Resident, arrival, client_at, empty, with_client, toplevels_of}
 use Rattle.spec_desktop.specs.Settling.{Midstep, becomes, ended_at, unstruck}
 use Rattle.spec_desktop.specs.Stacked.{all_windows}
 use Rattle.spec_desktop.specs.Step.{with_peer}
@@ -172,51 +171,51 @@ module _ (frames : Frames) where
         released-then c ToldOrderly (orderly-all frames) IsOrderlyAt Anyhow (orderly-stays frames) X Settled (λ mid within. last mid within.0)
         time button d known h
 
-    pub happens-known : (left : LeftOut) (act : Act) (done : Done) (d : Desktop) → Known c d → HappensThen left act done d Next Settled → X
-    happens-known left Connect done d known h = connects-known (lowest d.clients) d done refl known h
-    happens-known left (Feed a piece) done d known h = absurd h
-    happens-known left (Store a store at bytes) done d known h =
+    pub happens-known : (act : Act) (done : Done) (d : Desktop) → Known c d → HappensThen act done d Next Settled → X
+    happens-known Connect done d known h = connects-known (lowest d.clients) d done refl known h
+    happens-known (Feed a piece) done d known h = absurd h
+    happens-known (Store a store at bytes) done d known h =
         changes-known (IsStored store at bytes) _ a (client_at a d) d done (stored-keeps store at bytes done) refl known h
-    happens-known left (Leave a) done d known h = leaves-known a (client_at a d) d done refl known h
-    happens-known left (Tick time) done d known h =
+    happens-known (Leave a) done d known h = leaves-known a (client_at a d) d done refl known h
+    happens-known (Tick time) done d known h =
         shown-then c ToldOrderly (orderly-all frames) IsOrderlyAt Anyhow (orderly-stays frames) X Next (λ mid within. next mid within.0)
         (orderly-frames frames) time d known h.1
-    happens-known left (Send a n) done d known h = changes-known (IsSent n) _ a (client_at a d) d done (sent-keeps n done) refl known h
-    happens-known left (Close a) done d known h = changes-known IsClosed _ a (client_at a d) d done (closed-keeps done) refl known h
-    happens-known left (Motion time x y) done d known h =
+    happens-known (Send a n) done d known h = changes-known (IsSent n) _ a (client_at a d) d done (sent-keeps n done) refl known h
+    happens-known (Close a) done d known h = changes-known IsClosed _ a (client_at a d) d done (closed-keeps done) refl known h
+    happens-known (Motion time x y) done d known h =
         let at : Place = point_in d.output x y in
         moves-then c ToldOrderly (orderly-all frames) IsOrderlyAt Anyhow (orderly-stays frames) X Settled (λ mid within. last mid within.0)
         time at d (move-shifts c IsOrderlyAt (orderly-shifting c) d.pointer.place at d.pointer.move) known h.1
-    happens-known left (Button time button true) done d known h = presses-known (is_press button d.pointer.buttons) time button d known h.1
-    happens-known left (Button time button false) done d known h = releases-known (is_down button d.pointer.buttons) time button d known h.1
+    happens-known (Button time button true) done d known h = presses-known (is_press button d.pointer.buttons) time button d known h.1
+    happens-known (Button time button false) done d known h = releases-known (is_down button d.pointer.buttons) time button d known h.1
 
   -- ---- all that happens
 
   -- but for a piece of a client's stream it leaves each client orderly
-  single : (c : ℕ) (left : LeftOut) (act : Act) (done : Done) (d e : Desktop) → Known c d → HappensThen left act done d (settling e) (ending e) → Known c e
-  single c left act done d e known h =
-      happens-known c (Known c e) (settling e) (ending e) (settling-known frames c e) (ending-known frames c e) left act done d known h
+  single : (c : ℕ) (act : Act) (done : Done) (d e : Desktop) → Known c d → HappensThen act done d (settling e) (ending e) → Known c e
+  single c act done d e known h =
+      happens-known c (Known c e) (settling e) (ending e) (settling-known frames c e) (ending-known frames c e) act done d known h
 
   module _ (message : MessageKeeps) where
     -- the messages of one client leave each orderly
-    feeds : (left : LeftOut) (a : ℕ) (piece : List ℕ) (done : Done) (d e : Desktop) → AreOrderly d → Happens left (Feed a piece) done d e → AreOrderly e
-    feeds left a piece done d e orderly h c = at (same-or a c)
+    feeds : (a : ℕ) (piece : List ℕ) (done : Done) (d e : Desktop) → AreOrderly d → Happens (Feed a piece) done d e → AreOrderly e
+    feeds a piece done d e orderly h c = at (same-or a c)
       where
         at : (a ≡ c) ⊎ (a ≢ c) → Known c e
-        at (inl same) = subst (λ (n : ℕ). Known n e) same (fed-known frames message left a piece (client_at a d) d done e refl (orderly a) h)
-        at (inr differ) = left-orderly frames c d e (others_are_left_alone left (Feed a piece) done a c d e refl h differ) (orderly c)
+        at (inl same) = subst (λ (n : ℕ). Known n e) same (fed-known frames message a piece (client_at a d) d done e refl (orderly a) h)
+        at (inr differ) = left-orderly frames c d e (others_are_left_alone (Feed a piece) done a c d e refl h differ) (orderly c)
 
-    pub happens-orderly : (left : LeftOut) (act : Act) (done : Done) (d e : Desktop) → AreOrderly d → Happens left act done d e → AreOrderly e
-    happens-orderly left Connect done d e orderly h c =
-        single c left Connect done d e (orderly c) (connects-with (lowest d.clients) d done e h)
-    happens-orderly left (Feed a piece) done d e orderly h c = feeds left a piece done d e orderly h c
-    happens-orderly left (Store a store at bytes) done d e orderly h c = single c left (Store a store at bytes) done d e (orderly c) h
-    happens-orderly left (Leave a) done d e orderly h c = single c left (Leave a) done d e (orderly c) h
-    happens-orderly left (Tick time) done d e orderly h c = single c left (Tick time) done d e (orderly c) h
-    happens-orderly left (Send a n) done d e orderly h c = single c left (Send a n) done d e (orderly c) h
-    happens-orderly left (Close a) done d e orderly h c = single c left (Close a) done d e (orderly c) h
-    happens-orderly left (Motion time x y) done d e orderly h c = single c left (Motion time x y) done d e (orderly c) h
-    happens-orderly left (Button time button pressed) done d e orderly h c = single c left (Button time button pressed) done d e (orderly c) h
+    pub happens-orderly : (act : Act) (done : Done) (d e : Desktop) → AreOrderly d → Happens act done d e → AreOrderly e
+    happens-orderly Connect done d e orderly h c =
+        single c Connect done d e (orderly c) (connects-with (lowest d.clients) d done e h)
+    happens-orderly (Feed a piece) done d e orderly h c = feeds a piece done d e orderly h c
+    happens-orderly (Store a store at bytes) done d e orderly h c = single c (Store a store at bytes) done d e (orderly c) h
+    happens-orderly (Leave a) done d e orderly h c = single c (Leave a) done d e (orderly c) h
+    happens-orderly (Tick time) done d e orderly h c = single c (Tick time) done d e (orderly c) h
+    happens-orderly (Send a n) done d e orderly h c = single c (Send a n) done d e (orderly c) h
+    happens-orderly (Close a) done d e orderly h c = single c (Close a) done d e (orderly c) h
+    happens-orderly (Motion time x y) done d e orderly h c = single c (Motion time x y) done d e (orderly c) h
+    happens-orderly (Button time button pressed) done d e orderly h c = single c (Button time button pressed) done d e (orderly c) h
 
 -- a desktop without clients is orderly
 pub empty-orderly : (output : Output) → AreOrderly (empty output)

@@ -2,7 +2,6 @@
 use Rattle.std.proofs.Common.{List, [], ◌∷◌}
 use Rattle.spec_desktop.specs.declared.answers.Done.{Done}
 use Rattle.spec_desktop.specs.Desktop.{Desktop, empty}
-use Rattle.spec_desktop.specs.LeftOut.{LeftOut}
 use Rattle.law_desktop.specs.Soundness.{IsSound, RunIsSound}
 use Rattle.spec_desktop.specs.Act.{Act}
 use Rattle.spec_desktop.specs.Happens.{Happens}
@@ -31,14 +30,14 @@ frames =
 pub orderly-is-sound : (d : Desktop) → AreOrderly d → IsSound d
 orderly-is-sound d orderly = orderly-sound forest-trees d orderly
 
-pub happens-keeps : (left : LeftOut) (act : Act) (done : Done) (d e : Desktop) → AreOrderly d → Happens left act done d e → AreOrderly e
-happens-keeps left act done d e orderly h = happens-orderly frames message-keeps left act done d e orderly h
+pub happens-keeps : (act : Act) (done : Done) (d e : Desktop) → AreOrderly d → Happens act done d e → AreOrderly e
+happens-keeps act done d e orderly h = happens-orderly frames message-keeps act done d e orderly h
 
-pub lasts-keeps : (left : LeftOut) (acts : List Act) (dones : List Done) (d e : Desktop) → AreOrderly d → Lasts left acts dones d e → AreOrderly e
-lasts-keeps left [] [] d e orderly h = rw h orderly
-lasts-keeps left [] (done ∷ dones) d e orderly h = absurd h
-lasts-keeps left (act ∷ acts) [] d e orderly h = absurd h
-lasts-keeps left (act ∷ acts) (done ∷ dones) d e orderly h = lasts-keeps left acts dones h.0 e (happens-keeps left act done d h.0 orderly h.1) h.2
+pub lasts-keeps : (acts : List Act) (dones : List Done) (d e : Desktop) → AreOrderly d → Lasts acts dones d e → AreOrderly e
+lasts-keeps [] [] d e orderly h = rw h orderly
+lasts-keeps [] (done ∷ dones) d e orderly h = absurd h
+lasts-keeps (act ∷ acts) [] d e orderly h = absurd h
+lasts-keeps (act ∷ acts) (done ∷ dones) d e orderly h = lasts-keeps acts dones h.0 e (happens-keeps act done d h.0 orderly h.1) h.2
 
 pub run_is_sound : RunIsSound
-run_is_sound left output acts dones d h = orderly-is-sound d (lasts-keeps left acts dones (empty output) d (empty-orderly output) h)
+run_is_sound output acts dones d h = orderly-is-sound d (lasts-keeps acts dones (empty output) d (empty-orderly output) h)

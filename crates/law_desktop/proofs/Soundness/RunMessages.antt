@@ -17,7 +17,6 @@ use Rattle.spec_desktop.specs.Changing.{changed_for, stacked_for}
 use Rattle.spec_desktop.specs.Demand.{Demand}
 use Rattle.spec_desktop.specs.Demanding.{judge_all}
 use Rattle.spec_desktop.specs.Desktop.{Desktop, Resident, client_at, client_in, with_client, toplevels_of}
-use Rattle.spec_desktop.specs.LeftOut.{LeftOut}
 use Rattle.spec_desktop.specs.Replies.{replies}
 use Rattle.spec_desktop.specs.Settling.{Midstep, becomes, unstruck}
 use Rattle.spec_desktop.specs.Stacked.{all_windows}
@@ -33,8 +32,8 @@ use Rattle.law_desktop.proofs.Runs.Serves.{done-clients_stay}
 -- An accepted message leaves its client orderly.
 abbrev pub MessageKeeps : Type 0
 MessageKeeps =
-    (left : LeftOut) (c : ℕ) (r : Resident) (rest : List ℕ) (object opcode : ℕ) (body : List ℕ) (demand : Demand) (windows : List Window) (d : Desktop)
-    → judge_all left r object opcode body ≡ Ok demand → IsOrderly (r.peer.requests + 1) r (toplevels_of c d)
+    (c : ℕ) (r : Resident) (rest : List ℕ) (object opcode : ℕ) (body : List ℕ) (demand : Demand) (windows : List Window) (d : Desktop)
+    → judge_all r object opcode body ≡ Ok demand → IsOrderly (r.peer.requests + 1) r (toplevels_of c d)
     → (let s : Resident = with_peer (counted (with_rest rest r.peer)) r in IsOrderly (s.peer.requests + 1) (changed_for c demand s d) (toplevels_of c (stacked_for c demand s windows d)))
 
 -- ---- ends
@@ -54,7 +53,7 @@ pub lacking-ended : (p q : Peer) → LacksMemory p q → HasEnded q
 lacking-ended p q (inl e) = (Memory, p, e)
 lacking-ended p q (inr e) = (Memory, queued (error_told (display_error NoMemory)) p, e.1)
 
-module _ (frames : Frames) (message : MessageKeeps) (left : LeftOut) (c : ℕ) where
+module _ (frames : Frames) (message : MessageKeeps) (c : ℕ) where
   -- a client that lives is orderly
   lively : (r : Resident) (d : Desktop) → client_at c d ≡ Some r → r.peer.status ≡ None → Known c d → IsOrderly (r.peer.requests + 1) r (toplevels_of c d)
   lively r d found alive known =
@@ -74,26 +73,26 @@ module _ (frames : Frames) (message : MessageKeeps) (left : LeftOut) (c : ℕ) w
 
     -- what is asked is done
     does-known : (r : Resident) (rest : List ℕ) (object opcode : ℕ) (body : List ℕ) (demand : Demand) (d : Desktop)
-        → judge_all left r object opcode body ≡ Ok demand → client_at c d ≡ Some r → r.peer.status ≡ None → Known c d
-        → DoesThen left c demand (with_peer (counted (with_rest rest r.peer)) r) d Next → X
+        → judge_all r object opcode body ≡ Ok demand → client_at c d ≡ Some r → r.peer.status ≡ None → Known c d
+        → DoesThen c demand (with_peer (counted (with_rest rest r.peer)) r) d Next → X
     does-known r rest object opcode body demand d judged found alive known h =
         let s : Resident = with_peer (counted (with_rest rest r.peer)) r in
         let changed : Resident = changed_for c demand s d in
         let done : Desktop = done_for c demand s d in
         let tops : List Standing = toplevels_of c (stacked_for c demand s (all_windows d) d) in
-        let after : IsOrderly (s.peer.requests + 1) changed tops = message left c r rest object opcode body demand (all_windows d) d judged (lively r d found alive known) in
+        let after : IsOrderly (s.peer.requests + 1) changed tops = message c r rest object opcode body demand (all_windows d) d judged (lively r d found alive known) in
         let steady = changed-steady c demand d s in
         let counts : IsOrderly (changed.peer.requests + 1) changed tops = subst (λ (n : ℕ). IsOrderly (n + 1) changed tops) (sym steady.1) after in
         let made : IsOrderlyBy changed.peer.status changed tops = subst (λ (o : Option Cause). IsOrderlyBy o changed tops) (sym (steady.0 ∙ alive)) counts in
         let told : Resident = with_peer h.0 changed in
-        let it : IsOrderlyAt (Some told) tops = queued-orderly frames (replies left c demand s changed (all_windows d) d) changed h.0 h.1 h.2 tops made in
+        let it : IsOrderlyAt (Some told) tops = queued-orderly frames (replies c demand s changed (all_windows d) d) changed h.0 h.1 h.2 tops made in
         let now : Desktop = with_client c (Some told) done in
         let there : client_at c done ≡ Some r = ap (λ (clients : List (Option Resident)). client_in clients c) (done-clients_stay c demand s d) ∙ found in
         next (changed_so c demand s d h.0 h.1) (known-so c now (Some told) tops (number-same done.clients c (Some told) r there) refl it) h.3
 
     wants-known : (b : Bool) (r : Resident) (rest : List ℕ) (object opcode : ℕ) (body : List ℕ) (demand : Demand) (d : Desktop)
-        → judge_all left r object opcode body ≡ Ok demand → client_at c d ≡ Some r → r.peer.status ≡ None → Known c d
-        → WantsOrThen b (DoesThen left c demand (with_peer (counted (with_rest rest r.peer)) r) d Next) c
+        → judge_all r object opcode body ≡ Ok demand → client_at c d ≡ Some r → r.peer.status ≡ None → Known c d
+        → WantsOrThen b (DoesThen c demand (with_peer (counted (with_rest rest r.peer)) r) d Next) c
         (with_peer (counted (with_rest rest r.peer)) r) d Next → X
     wants-known false r rest object opcode body demand d judged found alive known h =
         does-known r rest object opcode body demand d judged found alive known h
@@ -104,8 +103,8 @@ module _ (frames : Frames) (message : MessageKeeps) (left : LeftOut) (c : ℕ) w
         does-known r rest object opcode body demand d judged found alive known h
 
     takes-known : (split : Split) (r : Resident) (d : Desktop)
-        → client_at c d ≡ Some r → r.peer.status ≡ None → Known c d → TakesThen left split c r d Next → X
-    takes-known (Message object opcode size) r d found alive known h = at (judge_all left r object opcode body) refl h
+        → client_at c d ≡ Some r → r.peer.status ≡ None → Known c d → TakesThen split c r d Next → X
+    takes-known (Message object opcode size) r d found alive known h = at (judge_all r object opcode body) refl h
       where
         rest : List ℕ
         rest = drop size r.peer.rest
@@ -113,8 +112,8 @@ module _ (frames : Frames) (message : MessageKeeps) (left : LeftOut) (c : ℕ) w
         body : List ℕ
         body = take (size - 8) (drop 8 r.peer.rest)
 
-        at : (judged : Result Demand Refusal) → judge_all left r object opcode body ≡ judged
-            → AnswersThen left judged c (with_peer (with_rest rest r.peer) r) d Next → X
+        at : (judged : Result Demand Refusal) → judge_all r object opcode body ≡ judged
+            → AnswersThen judged c (with_peer (with_rest rest r.peer) r) d Next → X
         at (Ok demand) e k = wants-known (wants_memory demand) r rest object opcode body demand d e found alive known k
         at (Err refusal) e k =
             becomes-known (Errs refusal (with_rest rest r.peer)) (λ q errs. erred-ended refusal (with_rest rest r.peer) q errs)
@@ -124,16 +123,16 @@ module _ (frames : Frames) (message : MessageKeeps) (left : LeftOut) (c : ℕ) w
         (λ q errs. erred-ended (display_error InvalidMethod) r.peer q errs) r r d found h
     takes-known More r d found alive known h = absurd h
 
-    pub serves-so : (o : Option Resident) (d : Desktop) → client_at c d ≡ o → Known c d → ServesThen left c o d Next → X
+    pub serves-so : (o : Option Resident) (d : Desktop) → client_at c d ≡ o → Known c d → ServesThen c o d Next → X
     serves-so None d found known h = absurd h
     serves-so (Some r) d found known h = takes-known (split_of r.peer.rest) r d found h.0 known h.1
 
-  serves-known : (o : Option Resident) (d new : Desktop) → client_at c d ≡ o → Known c d → ServesAt left c o d new → Known c new
+  serves-known : (o : Option Resident) (d new : Desktop) → client_at c d ≡ o → Known c d → ServesAt c o d new → Known c new
   serves-known o d new found known h = serves-so (Known c new) (settling new) (settling-known frames c new) o d found known h
 
   -- ---- a piece
 
-  reaches-known : (n : ℕ) (d new : Desktop) → Known c d → Reaches left c n d new → Known c new
+  reaches-known : (n : ℕ) (d new : Desktop) → Known c d → Reaches c n d new → Known c new
   reaches-known zero d new known h = known-same c d new h known
   reaches-known (suc n) d new known h = serves-known (client_at c h.0) h.0 new refl (reaches-known n d h.0 known h.1) h.2
 
@@ -146,7 +145,7 @@ module _ (frames : Frames) (message : MessageKeeps) (left : LeftOut) (c : ℕ) w
   with-known : (r : Resident) (q : Peer) (d : Desktop) → client_at c d ≡ Some r → IsOrderlyAt (Some (with_peer q r)) (toplevels_of c d) → Known c (with_client c (Some (with_peer q r)) d)
   with-known r q d found known = known-so c (with_client c (Some (with_peer q r)) d) (Some (with_peer q r)) (toplevels_of c d) (number-same d.clients c (Some (with_peer q r)) r found) refl known
 
-  feeds-known : (piece : List ℕ) (s : Option Cause) (r : Resident) (d new : Desktop) → client_at c d ≡ Some r → Known c d → FeedsAt left c piece s r d new → Known c new
+  feeds-known : (piece : List ℕ) (s : Option Cause) (r : Resident) (d new : Desktop) → client_at c d ≡ Some r → Known c d → FeedsAt c piece s r d new → Known c new
   feeds-known piece (Some cause) r d new found known h = known-same c d new h known
   feeds-known piece None r d new found known h =
       let come : Resident = with_peer (with_rest (r.peer.rest ++ piece) r.peer) r in
@@ -156,6 +155,6 @@ module _ (frames : Frames) (message : MessageKeeps) (left : LeftOut) (c : ℕ) w
       (alike frames r come (record { status = refl; requests = refl; objects = refl; owned = refl; subsurfaces = refl; callbacks = refl }) (toplevels_of c d) it) in
       stops-known (client_at c h.1) h.1 new refl (reaches-known h.0 (with_client c (Some come) d) h.1 start h.2) h.3
 
-  pub fed-known : (piece : List ℕ) (o : Option Resident) (d : Desktop) (done : Done) (new : Desktop) → client_at c d ≡ o → Known c d → IsFedAt left c piece o d done new → Known c new
+  pub fed-known : (piece : List ℕ) (o : Option Resident) (d : Desktop) (done : Done) (new : Desktop) → client_at c d ≡ o → Known c d → IsFedAt c piece o d done new → Known c new
   fed-known piece None d done new found known h = known-same c d new h.1 known
   fed-known piece (Some r) d done new found known h = feeds-known piece r.peer.status r d new found known h.0

@@ -3,18 +3,17 @@ use Rattle.std.proofs.Common.{◌≡◌, ℕ, List, [], ◌∷◌, Bool, true, f
 use Rattle.std.specs.Prelude.{fold}
 use Rattle.wl_store.specs.Stores.{Stock}
 use Rattle.spec_desktop.specs.declared.actions.Action.{Action}
-use Rattle.spec_desktop.specs.declared.actions.Action.TheVariants.{Sync, GetRegistry, Bind, CreateRegion, AddToRegion, SubtractFromRegion, DestroyRegion, CreatePool, CreateBuffer, ResizePool, DestroyPool}
-use Rattle.spec_desktop.specs.declared.actions.Action.TheVariants.{DestroyBuffer, CreatePositioner, SetPositioner, DestroyPositioner}
+use Rattle.spec_desktop.specs.declared.actions.Action.TheVariants.{DestroyBuffer}
 use Rattle.spec_desktop.specs.Peer.{Peer, changed, removed}
 use Rattle.spec_desktop.specs.Used.{changed_with, has_used, keeps_store}
 use Rattle.wl_shell.specs.Positioner.{Positioner}
 use Rattle.wl_shell.specs.Shell.{Effect, Stays, Unconfigured, Configures, Maps, Unmaps, XdgSurface, xdg_at, xdg_of}
 use Rattle.wl_surface.specs.Surfaces.{is_used}
 use Rattle.wl_surface.specs.Waiting.{Callback}
-use Rattle.spec_desktop.specs.Ask.{Ask, Own, CreateSurface, AskSurface, EndObject, GetXdgSurface, DestroyXdgSurface, GetToplevel, Acknowledge, ConfigureAgain, Ignore}
+use Rattle.spec_desktop.specs.Ask.{Ask, Own, GetToplevel}
 use Rattle.spec_desktop.specs.Changing.{Placing, placement_now, callbacks_of, changed_for, drawing, effect_placing, grab_allowed, grabbed, has_focus, in_rising_order, mode_set, popup_given_to, tree_committed}
-use Rattle.spec_desktop.specs.Demand.{Demand, Asks, EndSurface, AskFrame, CommitTree, GetSubsurface, EndSubsurface, SetMode, GetPointer, MakeCursor}
-use Rattle.spec_desktop.specs.Demand.{GetPopup, Grab, EndPopup, EndToplevel, Move}
+use Rattle.spec_desktop.specs.Demand.{Demand, Asks, EndSurface, CommitTree, SetMode, GetPointer}
+use Rattle.spec_desktop.specs.Demand.{GetPopup, Grab}
 use Rattle.spec_desktop.specs.Demanding.{effect_of_commit}
 use Rattle.spec_desktop.specs.Desktop.{Desktop, Resident}
 use Rattle.spec_desktop.specs.Step.{changed_by, toplevel_given}
@@ -31,21 +30,8 @@ stored-steady true stores p = (refl, refl)
 stored-steady false stores p = (refl, refl)
 
 own-steady : (used : ℕ → Bool) (action : Action) (p : Peer) → IsSteady p (changed_with used action p)
-own-steady used (Sync callback) p = (refl, refl)
-own-steady used (GetRegistry registry) p = (refl, refl)
-own-steady used (Bind id interface version) p = (refl, refl)
-own-steady used (CreateRegion id version) p = (refl, refl)
-own-steady used (AddToRegion id rect) p = (refl, refl)
-own-steady used (SubtractFromRegion id rect) p = (refl, refl)
-own-steady used (DestroyRegion id) p = (refl, refl)
-own-steady used (CreatePool id version size) p = (refl, refl)
-own-steady used (CreateBuffer id version laid) p = (refl, refl)
-own-steady used (ResizePool store size) p = (refl, refl)
-own-steady used (DestroyPool id store) p = (refl, refl)
-own-steady used (CreatePositioner id version) p = (refl, refl)
-own-steady used (SetPositioner id setting) p = (refl, refl)
-own-steady used (DestroyPositioner id) p = (refl, refl)
 own-steady used (DestroyBuffer id store) p = stored-steady (has_used used (p.buffers id)) p.stores (changed (DestroyBuffer id store) p)
+own-steady used action p = (refl, refl)
 
 toplevel-steady : (id xdg : ℕ) (x : Option XdgSurface) (r : Resident) → IsSteady r.peer (toplevel_given id xdg x r).peer
 toplevel-steady id xdg None r = (refl, refl)
@@ -53,15 +39,8 @@ toplevel-steady id xdg (Some x) r = (refl, refl)
 
 asked-steady : (ask : Ask) (r : Resident) → IsSteady r.peer (changed_by ask r).peer
 asked-steady (Own action) r = own-steady (λ number. is_used number r.owned.surfaces) action r.peer
-asked-steady (CreateSurface id version) r = (refl, refl)
-asked-steady (AskSurface id request) r = (refl, refl)
-asked-steady (EndObject id) r = (refl, refl)
-asked-steady (GetXdgSurface id version base surface) r = (refl, refl)
-asked-steady (DestroyXdgSurface id) r = (refl, refl)
 asked-steady (GetToplevel id version xdg) r = toplevel-steady id xdg (xdg_at xdg r.owned.shell) r
-asked-steady (Acknowledge xdg serial) r = (refl, refl)
-asked-steady (ConfigureAgain xdg) r = (refl, refl)
-asked-steady Ignore r = (refl, refl)
+asked-steady ask r = (refl, refl)
 
 pub callbacks-steady : (gone : List Callback) (p : Peer) → IsSteady p (fold (λ p callback. removed callback.id p) p gone)
 callbacks-steady [] p = (refl, refl)
@@ -99,16 +78,10 @@ repositioned-steady where_to p (Some q) r =
 pub changed-steady : (c : ℕ) (demand : Demand) (d : Desktop) (r : Resident) → IsSteady r.peer (changed_for c demand r d).peer
 changed-steady c (Asks ask) d r = asked-steady ask r
 changed-steady c (EndSurface id) d r = callbacks-steady (callbacks_of id r) _
-changed-steady c (AskFrame id version surface) d r = (refl, refl)
 changed-steady c (CommitTree surface) d r = effect-steady (placement_now c r d) surface (effect_of_commit r surface) (xdg_of surface r.owned.shell) (tree_committed surface r)
-changed-steady c (GetSubsurface id version child parent) d r = (refl, refl)
-changed-steady c (EndSubsurface id) d r = (refl, refl)
 changed-steady c (SetMode link synchronised) d r = mode-steady link synchronised r
 changed-steady c (GetPointer id version) d r = drawing-steady (has_focus c d.pointer.focus) (record r { pointers = in_rising_order id r.pointers })
-changed-steady c (MakeCursor surface) d r = (refl, refl)
 changed-steady c (GetPopup id version xdg parent p) d r = popup-steady id xdg parent p (xdg_at xdg r.owned.shell) r
 changed-steady c (Reposition xdg token p) d r = repositioned-steady (placement_now c r d) p (popup_at xdg r.owned.shell) r
 changed-steady c (Grab xdg serial) d r = grab-steady (grab_allowed c xdg serial r d) xdg r
-changed-steady c (EndPopup id xdg) d r = (refl, refl)
-changed-steady c (EndToplevel id xdg top) d r = (refl, refl)
-changed-steady c (Move surface serial) d r = (refl, refl)
+changed-steady c demand d r = (refl, refl)

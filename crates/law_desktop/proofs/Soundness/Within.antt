@@ -6,7 +6,6 @@ use Rattle.spec_desktop.specs.Peer.{ended, with_rest}
 use Rattle.spec_desktop.specs.Desktop.{Desktop, Resident, client_at, with_client}
 use Rattle.spec_desktop.specs.Happenings.{Happening, Leads, Message, Receive, ReceivesAt, Single, Starve, StarvesAt}
 use Rattle.law_desktop.specs.Happenings.{AreSound}
-use Rattle.spec_desktop.specs.LeftOut.{LeftOut}
 use Rattle.spec_desktop.specs.Settling.{Midstep, Strike, becomes, ended_all, ended_by, unstruck}
 use Rattle.spec_desktop.specs.Step.{with_peer}
 use Rattle.spec_desktop.specs.Through.{EndsFirstThrough, ServesThrough, SettlesAllThrough, ending_through, ends_through, settling_through}
@@ -85,17 +84,17 @@ module _ (c : ℕ) where
       subst (λ (p : List Desktop). AllKnown c p new) (sym h.2) all
 
   -- a message of this client, or of another
-  serves-known : (left : LeftOut) (a : ℕ) (d : Desktop) (path : List Desktop) (new : Desktop)
-      → Known c d → ServesThrough left a d path new → AllKnown c path new
-  serves-known left a d path new known h = at (same-or a c)
+  serves-known : (a : ℕ) (d : Desktop) (path : List Desktop) (new : Desktop)
+      → Known c d → ServesThrough a d path new → AllKnown c path new
+  serves-known a d path new known h = at (same-or a c)
     where
       at : (a ≡ c) ⊎ (a ≢ c) → AllKnown c path new
       at (inl same) =
-          let own : ServesThrough left c d path new = subst (λ (n : ℕ). ServesThrough left n d path new) same h in
-          serves-so frames message-keeps left c (AllKnown c path new) (settling_through path new) (all-settling path new)
+          let own : ServesThrough c d path new = subst (λ (n : ℕ). ServesThrough n d path new) same h in
+          serves-so frames message-keeps c (AllKnown c path new) (settling_through path new) (all-settling path new)
           (client_at c d) d refl known own
       at (inr differ) =
-          serves-then left a c differ IsOrderlyAt Anyhow (focus-stays frames) (AllKnown c path new) (settling_through path new)
+          serves-then a c differ IsOrderlyAt Anyhow (focus-stays frames) (AllKnown c path new) (settling_through path new)
           (λ mid within. all-settling path new mid within.0) (client_at a d) d known h
 
   -- memory runs out for a client
@@ -106,14 +105,14 @@ module _ (c : ℕ) where
       all-settling path new (unstruck (becomes a r (ended Memory r.peer) d)) (gone-known frames c a Memory r d found known) h.1
 
   -- A client that is orderly is so in each desktop that a happening leads through, and in the last.
-  pub leads-known : (left : LeftOut) (h : Happening) (d : Desktop) (path : List Desktop) (new : Desktop)
-      → Known c d → Leads left h d path new → AllKnown c path new
-  leads-known left (Receive a piece) d path new known h = receives-known a piece (client_at a d) d path new refl known h
-  leads-known left (Message a) d path new known h = serves-known left a d path new known h
-  leads-known left (Starve a) d path new known h = starves-known a (client_at a d) d path new refl known h
-  leads-known left (Single act done) d path new known h =
+  pub leads-known : (h : Happening) (d : Desktop) (path : List Desktop) (new : Desktop)
+      → Known c d → Leads h d path new → AllKnown c path new
+  leads-known (Receive a piece) d path new known h = receives-known a piece (client_at a d) d path new refl known h
+  leads-known (Message a) d path new known h = serves-known a d path new known h
+  leads-known (Starve a) d path new known h = starves-known a (client_at a d) d path new refl known h
+  leads-known (Single act done) d path new known h =
       happens-known frames c (AllKnown c path new) (settling_through path new) (ending_through path new)
-      (all-settling path new) (all-ending path new) left act done d known h
+      (all-settling path new) (all-ending path new) act done d known h
 
 -- where all clients are orderly in each of these, each is sound
 pub all-sound : (path : List Desktop) (new : Desktop) → ((c : ℕ) → AllKnown c path new) → AreSound path
@@ -126,5 +125,5 @@ last-orderly [] new all = all
 last-orderly (d ∷ ds) new all = last-orderly ds new (λ c. (all c).1)
 
 -- What happens leaves an orderly desktop.
-pub leads-orderly : (left : LeftOut) (h : Happening) (d : Desktop) (path : List Desktop) (new : Desktop) → AreOrderly d → Leads left h d path new → AreOrderly new
-leads-orderly left h d path new orderly leads = last-orderly path new (λ c. leads-known c left h d path new (orderly c) leads)
+pub leads-orderly : (h : Happening) (d : Desktop) (path : List Desktop) (new : Desktop) → AreOrderly d → Leads h d path new → AreOrderly new
+leads-orderly h d path new orderly leads = last-orderly path new (λ c. leads-known c h d path new (orderly c) leads)

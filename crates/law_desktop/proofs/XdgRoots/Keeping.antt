@@ -14,11 +14,11 @@ use Rattle.wl_shell.specs.Positioner.{Positioner}
 use Rattle.wl_shell.specs.Shell.{Effect, Stays, Unconfigured, Configures, Maps, Unmaps, XdgSurface, xdg_at, xdg_of}
 use Rattle.wl_shell.specs.Popups.{Popped, copying, is_configured, popup_at, repositioning}
 use Rattle.spec_desktop.specs.Stacking.{Standing}
-use Rattle.spec_desktop.specs.Ask.{Ask, Own, CreateSurface, AskSurface, EndObject, GetXdgSurface, DestroyXdgSurface, GetToplevel, Acknowledge, ConfigureAgain, Ignore}
+use Rattle.spec_desktop.specs.Ask.{Ask, CreateSurface, AskSurface, GetToplevel}
 use Rattle.spec_desktop.specs.Changing.{Placing, changed_for, drawing, effect_placing, placement_now, grab_allowed, grabbed, has_focus, in_rising_order, popup_given_to, tree_committed, unlinked_at, without_child}
 use Rattle.spec_desktop.specs.Changing.{popup_repositioned}
 use Rattle.spec_desktop.specs.Demand.{Demand, Asks, EndSurface, AskFrame, CommitTree, GetSubsurface, EndSubsurface, SetMode, GetPointer, MakeCursor, Reposition}
-use Rattle.spec_desktop.specs.Demand.{GetPopup, Grab, EndPopup, EndToplevel, Move}
+use Rattle.spec_desktop.specs.Demand.{GetPopup, Grab}
 use Rattle.spec_desktop.specs.Demanding.{effect_of_commit}
 use Rattle.spec_desktop.specs.Desktop.{Desktop, Resident, Subsurface}
 use Rattle.spec_desktop.specs.Step.{changed_by, toplevel_given, with_peer, xdg_changed}
@@ -100,16 +100,10 @@ module _ (Holds : ℕ → Surfaces → List Subsurface → Type 0) (keeps : Keep
     Now = with_peer p r
 
     asks-kept : (b : ℕ) (ask : Ask) → IsAsked r ask → Names r (Asks ask) → By b r → By b (changed_by ask Now)
-    asks-kept b (Own action) ok names known = known
     asks-kept b (CreateSurface id version) ok names known = keeps.created b id r.owned.surfaces r.subsurfaces known
     asks-kept b (AskSurface id request) ok names known = keeps.asked b id request r.owned.surfaces r.subsurfaces ok names known
-    asks-kept b (EndObject id) ok names known = known
-    asks-kept b (GetXdgSurface id version base surface) ok names known = known
-    asks-kept b (DestroyXdgSurface id) ok names known = known
     asks-kept b (GetToplevel id version xdg) ok names known = toplevel-kept b id xdg (xdg_at xdg r.owned.shell) Now known
-    asks-kept b (Acknowledge xdg serial) ok names known = known
-    asks-kept b (ConfigureAgain xdg) ok names known = known
-    asks-kept b Ignore ok names known = known
+    asks-kept b ask ok names known = known
 
     demand-kept : (c : ℕ) (demand : Demand) (tops : List Standing) (d : Desktop) → IsAllowed r demand → Names r demand → IsOrderly p.requests r tops → By p.requests r
         → By (p.requests + 1) (changed_for c demand Now d)
@@ -136,10 +130,8 @@ module _ (Holds : ℕ → Surfaces → List Subsurface → Type 0) (keeps : Keep
     demand-kept c (Reposition xdg token q) tops d ok names it known =
         keeps.later p.requests _ _ (repositioned-kept p.requests (placement_now c Now d) q (popup_at xdg r.owned.shell) Now known)
     demand-kept c (Grab xdg serial) tops d ok names it known = keeps.later p.requests _ _ (grab-kept p.requests (grab_allowed c xdg serial Now d) xdg Now known)
-    demand-kept c (EndPopup id xdg) tops d ok names it known = keeps.later p.requests _ _ known
-    demand-kept c (EndToplevel id xdg top) tops d ok names it known = keeps.later p.requests _ _ known
-    demand-kept c (Move surface serial) tops d ok names it known = keeps.later p.requests _ _ known
+    demand-kept c demand tops d ok names it known = keeps.later p.requests _ _ known
 
   pub messages-hold : MessageHolds Holds
-  messages-hold left c r rest object opcode body demand tops d judged orderly known =
-      demand-kept r (counted (with_rest rest r.peer)) c demand tops d (allowed left r object opcode body demand judged) (named left r object opcode body demand judged) orderly known
+  messages-hold c r rest object opcode body demand tops d judged orderly known =
+      demand-kept r (counted (with_rest rest r.peer)) c demand tops d (allowed r object opcode body demand judged) (named r object opcode body demand judged) orderly known

@@ -3,7 +3,7 @@ use Rattle.std.proofs.Common.{◌≡◌, ℕ, zero, suc, List, [], ◌∷◌, Bo
 use Rattle.std.specs.Prelude.{Ok, Err, pos, ◌==◌, ◌&&◌, ◌||◌, if◌then◌else◌, int_le, int_lt, is_some, length, nat_le}
 use Rattle.std.specs.List.{list_all, list_any}
 use Rattle.std.specs.Option.{option_map_or}
-use Rattle.wl_wire.specs.Wire.{Field, Word, Number, Text, Block, Kind, AWord, kind_of}
+use Rattle.wl_wire.specs.Wire.{Field, Word, Kind, AWord, kind_of}
 use Rattle.wl_geom.specs.declared.rect.Rect.{Rect}
 use Rattle.wl_proto.specs.declared.interface.Interface.{Interface}
 use Rattle.wl_proto.specs.declared.interface.Interface.TheVariants.{WlDisplay, WlRegistry, WlCallback, WlCompositor, WlRegion, WlSurface, WlShm, WlShmPool, WlBuffer, WlSubcompositor, WlSubsurface}
@@ -47,7 +47,6 @@ use Rattle.spec_desktop.specs.Demand.{Demand, Asks, GetSubsurface}
 use Rattle.spec_desktop.specs.Demanding.{base_demand, committed_by, compositor_demand, demand_by, demand_of, demands, effect_of_commit, judge_all, moved_by_pointer, own_demand, surface_demand}
 use Rattle.spec_desktop.specs.Demanding.{toplevel_asked, toplevel_destroyed, xdg_asked, if_whole}
 use Rattle.spec_desktop.specs.Desktop.{Resident}
-use Rattle.spec_desktop.specs.LeftOut.{LeftOut}
 use Rattle.spec_desktop.specs.WlPointer.{is_no_cursor, pointer_demand, seat_demand}
 use Rattle.spec_desktop.specs.WlSubsurface.{beside, demand_by_link, has_subsurface, is_no_subsurface, link_of_subsurface, placed_beside, subcompositor_demand, subsurface_made}
 use Rattle.spec_desktop.specs.XdgPopup.{grab_of, is_no_popup, may_be_parent, popup_asked, positioner_of, repositioned_by}
@@ -98,20 +97,9 @@ own-request r object version request = own-named r (action_of (known_of r.peer) 
 named-third : (objects : Objects) (new : Option Interface) (first second : Interface) (kinds : List Kind) (fields : List Field)
     → map kind_of fields ≡ AWord ∷ AWord ∷ AWord ∷ kinds → list_all (fits objects) (objects_of (ANewId new ∷ AnObject first false ∷ AnObject second false ∷ []) fields) ≡ true
     → is_of second (objects (word_in 2 fields)) ≡ true
-named-third objects new first second kinds [] e named = absurd (cc)
-named-third objects new first second kinds (a ∷ []) e named = absurd (cc)
-named-third objects new first second kinds (a ∷ b ∷ []) e named = absurd (cc)
 named-third objects new first second kinds (Word n ∷ Word m ∷ Word id ∷ fields) e named =
     fit-here (id == 0) (is_of second (objects id)) (and-left _ _ (and-right _ _ named))
-named-third objects new first second kinds (Number z ∷ b ∷ c ∷ fields) e named = absurd (cc)
-named-third objects new first second kinds (Text t ∷ b ∷ c ∷ fields) e named = absurd (cc)
-named-third objects new first second kinds (Block t ∷ b ∷ c ∷ fields) e named = absurd (cc)
-named-third objects new first second kinds (Word n ∷ Number z ∷ c ∷ fields) e named = absurd (cc)
-named-third objects new first second kinds (Word n ∷ Text t ∷ c ∷ fields) e named = absurd (cc)
-named-third objects new first second kinds (Word n ∷ Block t ∷ c ∷ fields) e named = absurd (cc)
-named-third objects new first second kinds (Word n ∷ Word m ∷ Number z ∷ fields) e named = absurd (cc)
-named-third objects new first second kinds (Word n ∷ Word m ∷ Text t ∷ fields) e named = absurd (cc)
-named-third objects new first second kinds (Word n ∷ Word m ∷ Block t ∷ fields) e named = absurd (cc)
+named-third objects new first second kinds fields e named = absurd (cc)
 
 made-named : (r : Resident) (object version : ℕ) (fields : List Field) → IsHeardBy WlSubcompositor r object 1 fields
     → AllNamed r (subsurface_made r object version (word_in 0 fields) (word_in 1 fields) (word_in 2 fields))
@@ -171,23 +159,17 @@ compositor-named r object version (compositor.CreateRegion id) = own-request r o
 
 surface-named : (r : Resident) (object version : ℕ) (request : WlSurfaceRequest) → AllNamed r (surface_demand r object version request)
 surface-named r object version surface.Destroy = either r (is_some (xdg_of object r.owned.shell)) _ _ tt tt
-surface-named r object version (surface.Attach buffer x y) = tt
-surface-named r object version (surface.Damage x y width height) = tt
-surface-named r object version (surface.Frame callback) = tt
-surface-named r object version (surface.SetOpaqueRegion region) = tt
-surface-named r object version (surface.SetInputRegion region) = tt
 surface-named r object version surface.Commit =
     whole-named r (will_be_whole r object) object _ (committed-named r (xdg_of object r.owned.shell) object (effect_of_commit r object))
 surface-named r object version (surface.SetBufferTransform transform) = ask-either r (int_le (pos 0) transform && int_le transform (pos 7)) _ _ tt tt
 surface-named r object version (surface.SetBufferScale scale) = ask-either r (int_le (pos 1) scale) _ _ tt tt
-surface-named r object version (surface.DamageBuffer x y width height) = tt
+surface-named r object version request = tt
 
 -- ---- the seat
 
 seat-named : (r : Resident) (object version : ℕ) (request : WlSeatRequest) → AllNamed r (seat_demand object version request)
 seat-named r object version (seat.GetPointer id) = tt
-seat-named r object version (seat.GetKeyboard id) = tt
-seat-named r object version (seat.GetTouch id) = tt
+seat-named r object version request = tt
 
 pointer-named : (r : Resident) (object : ℕ) (request : WlPointerRequest) → AllNamed r (pointer_demand r object request)
 pointer-named r object (pointer.SetCursor serial surface x y) =
@@ -277,9 +259,8 @@ demanded-named WlBuffer r object version opcode fields heard = own-request r obj
 demanded-named WlOutput r object version opcode fields heard = own-request r object version (request_in WlOutput opcode fields)
 
 -- what an accepted message names
-pub named : (left : LeftOut) (r : Resident) (object opcode : ℕ) (body : List ℕ) (demand : Demand) → judge_all left r object opcode body ≡ Ok demand → Names r demand
-named left r object opcode body demand e =
-    let heard = judged-hears r.peer.objects r.peer.held object opcode (λ version m. demand_of left r object version m) body demand e in
+pub named : (r : Resident) (object opcode : ℕ) (body : List ℕ) (demand : Demand) → judge_all r object opcode body ≡ Ok demand → Names r demand
+named r object opcode body demand e =
+    let heard = judged-hears r.peer.objects r.peer.held object opcode (λ version m. demand_of r object version m) body demand e in
     let interface = heard.0.interface in
-    subst (λ o. AllNamed r o) heard.3
-    (either r (left.requests (request_in interface opcode heard.1)) _ _ tt (demanded-named interface r object heard.0.version opcode heard.1 heard.2))
+    subst (λ o. AllNamed r o) heard.3 (demanded-named interface r object heard.0.version opcode heard.1 heard.2)

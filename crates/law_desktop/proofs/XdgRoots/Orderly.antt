@@ -42,8 +42,8 @@ roots-of (Some r) tops known surface has number link live same =
     true≢false (sym has ∙ ap is_some (ap (λ n. xdg_of n r.owned.shell) (sym same) ∙ roles.bare number link live))
 
 pub xdg-surfaces-are-roots : XdgSurfacesAreRoots
-xdg-surfaces-are-roots left output acts dones d h c surface has =
-    roots-of (client_at c d) (toplevels_of c d) (lasts-keeps left acts dones (empty output) d (empty-orderly output) h c) surface has
+xdg-surfaces-are-roots output acts dones d h c surface has =
+    roots-of (client_at c d) (toplevels_of c d) (lasts-keeps acts dones (empty output) d (empty-orderly output) h c) surface has
 
 -- ---- wl_subsurfaces
 
@@ -52,8 +52,8 @@ names child None is = absurd (true≢false (sym is))
 names child (Some k) is = ap (λ n. Some n) (eqb-true k child is)
 
 pub links-have-subsurfaces : LinksHaveSubsurfaces
-links-have-subsurfaces left output acts dones d h c r here number link live =
-    let it = client-orderly c d r (lasts-keeps left acts dones (empty output) d (empty-orderly output) h) here in
+links-have-subsurfaces output acts dones d h c r here number link live =
+    let it = client-orderly c d r (lasts-keeps acts dones (empty output) d (empty-orderly output) h) here in
     let found = any-found (λ id s. s.id == id) (λ s. (s.link == number) && is_of_child link.child s.surface) r.subsurfaces it.objects.subsurfaces.0 (it.roles.named number link live) in
     let at = found.2 found.0.id (equal-numbers found.0.id found.0.id refl) in
     record {
@@ -121,5 +121,5 @@ links-apart None tops known = (tt, tt)
 links-apart (Some r) tops known = forest-apart (r.peer.requests + 1) r.owned.surfaces (by-status r.peer.status r tops known).forest
 
 pub links-are-apart : LinksAreApart
-links-are-apart left output acts dones d h c =
-    links-apart (client_at c d) (toplevels_of c d) (lasts-keeps left acts dones (empty output) d (empty-orderly output) h c)
+links-are-apart output acts dones d h c =
+    links-apart (client_at c d) (toplevels_of c d) (lasts-keeps acts dones (empty output) d (empty-orderly output) h c)

@@ -25,7 +25,6 @@ use Rattle.spec_desktop.specs.Demanding.{judge_all}
 use Rattle.spec_desktop.specs.Desktop.{Desktop, Resident, Subsurface, arrival, client_at, client_in, empty, place, resident_of, toplevels_of, with_client, with_number, with_place}
 use Rattle.spec_desktop.specs.Happens.{AnswersThen, BecomesThen, ChangesThen, ConnectsThen, DoesThen, FeedsAt, Happens, HappensThen, IsFedAt, LeavesThen, PressesThen, Reaches, ReleasesThen, ServesThen}
 use Rattle.spec_desktop.specs.Happens.{StopsAt, TakesThen, WantsOrThen, callbacks_due, changed_so, done_for, ending, frames_told, point_in, settling, wants_memory}
-use Rattle.spec_desktop.specs.LeftOut.{LeftOut}
 use Rattle.spec_desktop.specs.Pointing.{button_told, entered_surface, has_pointers, left_surface, motion_told}
 use Rattle.spec_desktop.specs.Replies.{popups_done, replies}
 use Rattle.spec_desktop.specs.Settling.{Midstep, Strike, becomes, leave_drawn, noted, noted_if, number_of, told_drawn, unstruck, without_grabs}
@@ -74,8 +73,8 @@ number-either rs (suc k) (suc n) x = place-either rs k n x
 -- An accepted message of a client that is orderly keeps it; the bound is past the number of its last request.
 abbrev pub MessageHolds : (ℕ → Surfaces → List Subsurface → Type 0) → Type 0
 MessageHolds Holds =
-    (left : LeftOut) (c : ℕ) (r : Resident) (rest : List ℕ) (object opcode : ℕ) (body : List ℕ) (demand : Demand) (tops : List Standing) (d : Desktop)
-    → judge_all left r object opcode body ≡ Ok demand → IsOrderly (r.peer.requests + 1) r tops → Holds (r.peer.requests + 1) r.owned.surfaces r.subsurfaces
+    (c : ℕ) (r : Resident) (rest : List ℕ) (object opcode : ℕ) (body : List ℕ) (demand : Demand) (tops : List Standing) (d : Desktop)
+    → judge_all r object opcode body ≡ Ok demand → IsOrderly (r.peer.requests + 1) r tops → Holds (r.peer.requests + 1) r.owned.surfaces r.subsurfaces
     → (let s : Resident = with_peer (counted (with_rest rest r.peer)) r in Holds (s.peer.requests + 1) (changed_for c demand s d).owned.surfaces (changed_for c demand s d).subsurfaces)
 
 -- nothing need be known of why a client is to end
@@ -271,30 +270,30 @@ module _ (Holds : ℕ → Surfaces → List Subsurface → Type 0) (first : (bou
         released-then c ToldHolds pointer-holds HoldsBy Anyhow stays-so X Settled (λ mid within. last mid within.0)
         time button d known h
 
-    happens-known : (left : LeftOut) (act : Act) (done : Done) (d : Desktop) → AllHold d → HappensThen left act done d Next Settled → X
-    happens-known left Connect done d known h = connects (lowest d.clients) d done known h
-    happens-known left (Feed a piece) done d known h = absurd h
-    happens-known left (Store a store at bytes) done d known h =
+    happens-known : (act : Act) (done : Done) (d : Desktop) → AllHold d → HappensThen act done d Next Settled → X
+    happens-known Connect done d known h = connects (lowest d.clients) d done known h
+    happens-known (Feed a piece) done d known h = absurd h
+    happens-known (Store a store at bytes) done d known h =
         changes (IsStored store at bytes) _ a (client_at a d) d done (stored-keeps store at bytes done) refl known h
-    happens-known left (Leave a) done d known h = leaves a (client_at a d) d done known h
-    happens-known left (Tick time) done d known h =
+    happens-known (Leave a) done d known h = leaves a (client_at a d) d done known h
+    happens-known (Tick time) done d known h =
         shown-then c ToldHolds pointer-holds HoldsBy Anyhow stays-so X Next (λ mid within. next mid within.0) frames-hold time d (known c) h.1
-    happens-known left (Send a n) done d known h = changes (IsSent n) _ a (client_at a d) d done (sent-keeps n done) refl known h
-    happens-known left (Close a) done d known h = changes IsClosed _ a (client_at a d) d done (closed-keeps done) refl known h
-    happens-known left (Motion time x y) done d known h =
+    happens-known (Send a n) done d known h = changes (IsSent n) _ a (client_at a d) d done (sent-keeps n done) refl known h
+    happens-known (Close a) done d known h = changes IsClosed _ a (client_at a d) d done (closed-keeps done) refl known h
+    happens-known (Motion time x y) done d known h =
         let at : Place = point_in d.output x y in
         moves-then c ToldHolds pointer-holds HoldsBy Anyhow stays-so X Settled (λ mid within. last mid within.0)
         time at d (move-shifts c HoldsBy holds-shifting d.pointer.place at d.pointer.move) (known c) h.1
-    happens-known left (Button time button true) done d known h = presses (is_press button d.pointer.buttons) time button d (known c) h.1
-    happens-known left (Button time button false) done d known h = releases (is_down button d.pointer.buttons) time button d (known c) h.1
+    happens-known (Button time button true) done d known h = presses (is_press button d.pointer.buttons) time button d (known c) h.1
+    happens-known (Button time button false) done d known h = releases (is_down button d.pointer.buttons) time button d (known c) h.1
 
-  single : (left : LeftOut) (act : Act) (done : Done) (d e : Desktop) → AllHold d → HappensThen left act done d (settling e) (ending e) → AllHold e
-  single left act done d e known h c =
-      happens-known c (HoldsAt (client_at c e)) (settling e) (ending e) (settling-holds c e) (ending-holds c e) left act done d known h
+  single : (act : Act) (done : Done) (d e : Desktop) → AllHold d → HappensThen act done d (settling e) (ending e) → AllHold e
+  single act done d e known h c =
+      happens-known c (HoldsAt (client_at c e)) (settling e) (ending e) (settling-holds c e) (ending-holds c e) act done d known h
 
   -- ---- the messages of a client
 
-  module _ (message : MessageHolds Holds) (left : LeftOut) (c : ℕ) where
+  module _ (message : MessageHolds Holds) (c : ℕ) where
     -- what follows from the middle of a step, with what comes then, follows from the message
     module _ (X : Type 0) (Next : Midstep → Type 0) (next : (mid : Midstep) → AllHold mid.desktop → Next mid → X) where
       over : (Q : Peer → Type 0) → ((q : Peer) → Q q → HasEnded q) → (r : Resident) (d : Desktop) → AllHold d → BecomesThen Q c r d Next → X
@@ -303,15 +302,15 @@ module _ (Holds : ℕ → Surfaces → List Subsurface → Type 0) (first : (bou
           next (unstruck (becomes c r h.0 d)) (subst (λ (q : Peer). AllHold (becomes c r q d)) (sym k.2) (gone c k.0 k.1 r d known)) h.2
 
       does : (r : Resident) (rest : List ℕ) (object opcode : ℕ) (body : List ℕ) (demand : Demand) (d : Desktop)
-          → judge_all left r object opcode body ≡ Ok demand → client_at c d ≡ Some r → IsOrderly (r.peer.requests + 1) r (toplevels_of c d) → AllHold d
-          → DoesThen left c demand (with_peer (counted (with_rest rest r.peer)) r) d Next → X
+          → judge_all r object opcode body ≡ Ok demand → client_at c d ≡ Some r → IsOrderly (r.peer.requests + 1) r (toplevels_of c d) → AllHold d
+          → DoesThen c demand (with_peer (counted (with_rest rest r.peer)) r) d Next → X
       does r rest object opcode body demand d judged found orderly known h =
           let s : Resident = with_peer (counted (with_rest rest r.peer)) r in
           let changed : Resident = changed_for c demand s d in
           let done : Desktop = done_for c demand s d in
           let own : HoldsOf r = at-so (Some r) (client_at c d) (sym found) (known c) in
-          let after : Holds (s.peer.requests + 1) changed.owned.surfaces changed.subsurfaces = message left c r rest object opcode body demand (toplevels_of c d) d judged orderly own in
-          let more = has-more (replies left c demand s changed (all_windows d) d) changed.peer h.0 h.1 h.2 in
+          let after : Holds (s.peer.requests + 1) changed.owned.surfaces changed.subsurfaces = message c r rest object opcode body demand (toplevels_of c d) d judged orderly own in
+          let more = has-more (replies c demand s changed (all_windows d) d) changed.peer h.0 h.1 h.2 in
           let counts : h.0.requests ≡ s.peer.requests = ap (λ (p : Peer). p.requests) more.1 ∙ (changed-steady c demand d s).1 in
           let told : Resident = with_peer h.0 changed in
           let it : HoldsAt (Some told) = subst (λ (n : ℕ). Holds (n + 1) changed.owned.surfaces changed.subsurfaces) (sym counts) after in
@@ -319,8 +318,8 @@ module _ (Holds : ℕ → Surfaces → List Subsurface → Type 0) (first : (bou
           next (changed_so c demand s d h.0 h.1) (put c (Some told) done it stay) h.3
 
       wants : (b : Bool) (r : Resident) (rest : List ℕ) (object opcode : ℕ) (body : List ℕ) (demand : Demand) (d : Desktop)
-          → judge_all left r object opcode body ≡ Ok demand → client_at c d ≡ Some r → IsOrderly (r.peer.requests + 1) r (toplevels_of c d) → AllHold d
-          → WantsOrThen b (DoesThen left c demand (with_peer (counted (with_rest rest r.peer)) r) d Next) c (with_peer (counted (with_rest rest r.peer)) r) d Next → X
+          → judge_all r object opcode body ≡ Ok demand → client_at c d ≡ Some r → IsOrderly (r.peer.requests + 1) r (toplevels_of c d) → AllHold d
+          → WantsOrThen b (DoesThen c demand (with_peer (counted (with_rest rest r.peer)) r) d Next) c (with_peer (counted (with_rest rest r.peer)) r) d Next → X
       wants false r rest object opcode body demand d judged found orderly known h = does r rest object opcode body demand d judged found orderly known h
       wants true r rest object opcode body demand d judged found orderly known (inl h) =
           over (LacksMemory (counted (with_rest rest r.peer))) (λ q lacks. lacking-ended (counted (with_rest rest r.peer)) q lacks)
@@ -328,8 +327,8 @@ module _ (Holds : ℕ → Surfaces → List Subsurface → Type 0) (first : (bou
       wants true r rest object opcode body demand d judged found orderly known (inr h) = does r rest object opcode body demand d judged found orderly known h
 
       takes : (split : Split) (r : Resident) (d : Desktop)
-          → client_at c d ≡ Some r → IsOrderly (r.peer.requests + 1) r (toplevels_of c d) → AllHold d → TakesThen left split c r d Next → X
-      takes (Message object opcode size) r d found orderly known h = at (judge_all left r object opcode body) refl h
+          → client_at c d ≡ Some r → IsOrderly (r.peer.requests + 1) r (toplevels_of c d) → AllHold d → TakesThen split c r d Next → X
+      takes (Message object opcode size) r d found orderly known h = at (judge_all r object opcode body) refl h
         where
           rest : List ℕ
           rest = drop size r.peer.rest
@@ -337,8 +336,8 @@ module _ (Holds : ℕ → Surfaces → List Subsurface → Type 0) (first : (bou
           body : List ℕ
           body = take (size - 8) (drop 8 r.peer.rest)
 
-          at : (judged : Result Demand Refusal) → judge_all left r object opcode body ≡ judged
-              → AnswersThen left judged c (with_peer (with_rest rest r.peer) r) d Next → X
+          at : (judged : Result Demand Refusal) → judge_all r object opcode body ≡ judged
+              → AnswersThen judged c (with_peer (with_rest rest r.peer) r) d Next → X
           at (Ok demand) e k = wants (wants_memory demand) r rest object opcode body demand d e found orderly known k
           at (Err refusal) e k =
               over (Errs refusal (with_rest rest r.peer)) (λ q errs. erred-ended refusal (with_rest rest r.peer) q errs)
@@ -347,7 +346,7 @@ module _ (Holds : ℕ → Surfaces → List Subsurface → Type 0) (first : (bou
           over (Errs (display_error InvalidMethod) r.peer) (λ q errs. erred-ended (display_error InvalidMethod) r.peer q errs) r d known h
       takes More r d found orderly known h = absurd h
 
-      serves : (o : Option Resident) (d : Desktop) → client_at c d ≡ o → IsOrderlyAt o (toplevels_of c d) → AllHold d → ServesThen left c o d Next → X
+      serves : (o : Option Resident) (d : Desktop) → client_at c d ≡ o → IsOrderlyAt o (toplevels_of c d) → AllHold d → ServesThen c o d Next → X
       serves None d found orderly known h = absurd h
       serves (Some r) d found orderly known h = takes (split_of r.peer.rest) r d found (subst (λ (s : Option Cause). IsOrderlyBy s r (toplevels_of c d)) h.0 orderly) known h.1
 
@@ -356,13 +355,13 @@ module _ (Holds : ℕ → Surfaces → List Subsurface → Type 0) (first : (bou
     abbrev Both : Desktop → Type 0
     Both d = KnownOrderly c d × AllHold d
 
-    served : (d new : Desktop) → Both d → ServesThen left c (client_at c d) d (settling new) → Both new
+    served : (d new : Desktop) → Both d → ServesThen c (client_at c d) d (settling new) → Both new
     served d new known h = (
-      serves-so frames message-keeps left c (KnownOrderly c new) (settling new) (settling-known frames c new) (client_at c d) d refl known.0 h,
+      serves-so frames message-keeps c (KnownOrderly c new) (settling new) (settling-known frames c new) (client_at c d) d refl known.0 h,
       serves (AllHold new) (settling new) (λ mid holds k a. settling-holds a new mid (holds a) k) (client_at c d) d refl known.0 known.1 h,
     )
 
-    reaches : (n : ℕ) (d new : Desktop) → Both d → Reaches left c n d new → Both new
+    reaches : (n : ℕ) (d new : Desktop) → Both d → Reaches c n d new → Both new
     reaches zero d new known h = (known-same c d new h known.0, hold-same d new h known.1)
     reaches (suc n) d new known h = served h.0 new (reaches n d h.0 known h.1) h.2
 
@@ -371,7 +370,7 @@ module _ (Holds : ℕ → Surfaces → List Subsurface → Type 0) (first : (bou
     stops (Some r) mid new known (inl h) = hold-same mid new h.0 known
     stops (Some r) mid new known (inr h) = settled-holds (becomes c r (ended Memory r.peer) mid) new (gone c Memory r.peer r mid known) h.1
 
-    feeds : (piece : List ℕ) (s : Option Cause) (r : Resident) (d new : Desktop) → client_at c d ≡ Some r → Both d → FeedsAt left c piece s r d new → AllHold new
+    feeds : (piece : List ℕ) (s : Option Cause) (r : Resident) (d new : Desktop) → client_at c d ≡ Some r → Both d → FeedsAt c piece s r d new → AllHold new
     feeds piece (Some cause) r d new found known h = hold-same d new h known.1
     feeds piece None r d new found known h =
         let come : Resident = with_peer (with_rest (r.peer.rest ++ piece) r.peer) r in
@@ -383,32 +382,32 @@ module _ (Holds : ℕ → Surfaces → List Subsurface → Type 0) (first : (bou
         let own : HoldsOf r = at-so (Some r) (client_at c d) (sym found) (known.1 c) in
         stops (client_at c h.1) h.1 new (reaches h.0 start h.1 (orderly, put c (Some come) d own known.1) h.2).1 h.3
 
-    fed : (piece : List ℕ) (o : Option Resident) (d : Desktop) (done : Done) (new : Desktop) → client_at c d ≡ o → Both d → IsFedAt left c piece o d done new → AllHold new
+    fed : (piece : List ℕ) (o : Option Resident) (d : Desktop) (done : Done) (new : Desktop) → client_at c d ≡ o → Both d → IsFedAt c piece o d done new → AllHold new
     fed piece None d done new found known h = hold-same d new h.1 known.1
     fed piece (Some r) d done new found known h = feeds piece r.peer.status r d new found known h.0
 
   -- ---- all that happens
 
   module _ (message : MessageHolds Holds) where
-    happens-holds : (left : LeftOut) (act : Act) (done : Done) (d e : Desktop) → AreOrderly d → AllHold d → Happens left act done d e → AllHold e
-    happens-holds left Connect done d e orderly known h = single left Connect done d e known (connects-with (lowest d.clients) d done e h)
-    happens-holds left (Feed a piece) done d e orderly known h = fed message left a piece (client_at a d) d done e refl (orderly a, known) h
-    happens-holds left (Store a store at bytes) done d e orderly known h = single left (Store a store at bytes) done d e known h
-    happens-holds left (Leave a) done d e orderly known h = single left (Leave a) done d e known h
-    happens-holds left (Tick time) done d e orderly known h = single left (Tick time) done d e known h
-    happens-holds left (Send a n) done d e orderly known h = single left (Send a n) done d e known h
-    happens-holds left (Close a) done d e orderly known h = single left (Close a) done d e known h
-    happens-holds left (Motion time x y) done d e orderly known h = single left (Motion time x y) done d e known h
-    happens-holds left (Button time button pressed) done d e orderly known h = single left (Button time button pressed) done d e known h
+    happens-holds : (act : Act) (done : Done) (d e : Desktop) → AreOrderly d → AllHold d → Happens act done d e → AllHold e
+    happens-holds Connect done d e orderly known h = single Connect done d e known (connects-with (lowest d.clients) d done e h)
+    happens-holds (Feed a piece) done d e orderly known h = fed message a piece (client_at a d) d done e refl (orderly a, known) h
+    happens-holds (Store a store at bytes) done d e orderly known h = single (Store a store at bytes) done d e known h
+    happens-holds (Leave a) done d e orderly known h = single (Leave a) done d e known h
+    happens-holds (Tick time) done d e orderly known h = single (Tick time) done d e known h
+    happens-holds (Send a n) done d e orderly known h = single (Send a n) done d e known h
+    happens-holds (Close a) done d e orderly known h = single (Close a) done d e known h
+    happens-holds (Motion time x y) done d e orderly known h = single (Motion time x y) done d e known h
+    happens-holds (Button time button pressed) done d e orderly known h = single (Button time button pressed) done d e known h
 
-    lasts : (left : LeftOut) (acts : List Act) (dones : List Done) (d e : Desktop) → AreOrderly d → AllHold d → Lasts left acts dones d e → AllHold e
-    lasts left [] [] d e orderly known h = hold-same d e h known
-    lasts left [] (done ∷ dones) d e orderly known h = absurd h
-    lasts left (act ∷ acts) [] d e orderly known h = absurd h
-    lasts left (act ∷ acts) (done ∷ dones) d e orderly known h =
-        lasts left acts dones h.0 e (happens-keeps left act done d h.0 orderly h.1) (happens-holds left act done d h.0 orderly known h.1) h.2
+    lasts : (acts : List Act) (dones : List Done) (d e : Desktop) → AreOrderly d → AllHold d → Lasts acts dones d e → AllHold e
+    lasts [] [] d e orderly known h = hold-same d e h known
+    lasts [] (done ∷ dones) d e orderly known h = absurd h
+    lasts (act ∷ acts) [] d e orderly known h = absurd h
+    lasts (act ∷ acts) (done ∷ dones) d e orderly known h =
+        lasts acts dones h.0 e (happens-keeps act done d h.0 orderly h.1) (happens-holds act done d h.0 orderly known h.1) h.2
 
     -- it holds of each client, whatever happens
-    pub lasts-hold : (left : LeftOut) (output : Output) (acts : List Act) (dones : List Done) (d : Desktop) → Lasts left acts dones (empty output) d → AllHold d
-    lasts-hold left output acts dones d h =
-        lasts left acts dones (empty output) d (empty-orderly output) (λ c. at-so (client_at c (empty output)) None (no-client output c) tt) h
+    pub lasts-hold : (output : Output) (acts : List Act) (dones : List Done) (d : Desktop) → Lasts acts dones (empty output) d → AllHold d
+    lasts-hold output acts dones d h =
+        lasts acts dones (empty output) d (empty-orderly output) (λ c. at-so (client_at c (empty output)) None (no-client output c) tt) h

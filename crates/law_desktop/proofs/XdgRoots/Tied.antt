@@ -353,5 +353,5 @@ tied-at None known = tied-first 0
 tied-at (Some r) known = known
 
 pub surfaces-are-tied : SurfacesAreTied
-surfaces-are-tied left output acts dones d h c =
-    tied-at (client_at c d) (lasts-hold HangTogether tied-first (messages-hold HangTogether tied-keeps) left output acts dones d h c)
+surfaces-are-tied output acts dones d h c =
+    tied-at (client_at c d) (lasts-hold HangTogether tied-first (messages-hold HangTogether tied-keeps) output acts dones d h c)

@@ -2,7 +2,6 @@
 use Rattle.std.specs.Prelude.{ℕ, ◌≡◌, List, [], ◌∷◌, ◌++◌, map}
 use Rattle.spec_desktop.specs.Desktop.{Desktop, unpointed}
 use Rattle.spec_desktop.specs.Happens.{Serves}
-use Rattle.spec_desktop.specs.LeftOut.{LeftOut}
 use Rattle.spec_desktop.specs.Settling.{SettlesAll, unstruck}
 use Rattle.spec_desktop.specs.Through.{ServesThrough, SettlesAllThrough}
 use Rattle.law_desktop.specs.Pointed.Pointed.{AsksNoFocus, MovedStands, put_back}
@@ -11,8 +10,8 @@ use Rattle.law_desktop.specs.Pointed.Pointed.{AsksNoFocus, MovedStands, put_back
 -- the focus is settled: all but wl_seat.get_pointer of the client that has the focus.
 abbrev pub PointerApart : Type 0
 PointerApart =
-    (left : LeftOut) (c : ℕ) (d e new : Desktop) → MovedStands d → AsksNoFocus left c d → Serves left c (unpointed d) e
-    → SettlesAll 33 (unstruck (put_back left c d e)) new → Serves left c d new
+    (c : ℕ) (d e new : Desktop) → MovedStands d → AsksNoFocus c d → Serves c (unpointed d) e
+    → SettlesAll 33 (unstruck (put_back c d e)) new → Serves c d new
 
 -- A step that leads through these desktops, with the pointer put aside, settles nothing at its end: the last of them stands there twice.
 -- With the pointer put back it leads through the same, and then through those of the settling.
@@ -25,5 +24,5 @@ SettlesOn put Step path e =
 -- So it is with the desktops on the way.
 abbrev pub PointerApartThrough : Type 0
 PointerApartThrough =
-    (left : LeftOut) (c : ℕ) (d : Desktop) (path : List Desktop) (e : Desktop) → MovedStands d → AsksNoFocus left c d
-    → ServesThrough left c (unpointed d) path e → SettlesOn (put_back left c d) (ServesThrough left c d) path e
+    (c : ℕ) (d : Desktop) (path : List Desktop) (e : Desktop) → MovedStands d → AsksNoFocus c d
+    → ServesThrough c (unpointed d) path e → SettlesOn (put_back c d) (ServesThrough c d) path e

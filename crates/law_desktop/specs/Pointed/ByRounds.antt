@@ -8,7 +8,6 @@ use Rattle.spec_desktop.specs.Changing.{grab_holder}
 use Rattle.spec_desktop.specs.Desktop.{Desktop}
 use Rattle.spec_desktop.specs.Happenings.{Happening, Leads, Single}
 use Rattle.spec_desktop.specs.Happens.{placed, point_in, with_press, with_release}
-use Rattle.spec_desktop.specs.LeftOut.{LeftOut}
 use Rattle.spec_desktop.specs.Marks.{AreDistinct}
 use Rattle.spec_desktop.specs.Moments.{marks_at_least_of, marks_at_least_through, marks_at_most_of, marks_at_most_through}
 use Rattle.spec_desktop.specs.Settling.{Midstep, PointerActs, unstruck}
@@ -28,9 +27,9 @@ MarksOwnAndEnds raised d own rounds path =
     ≡ (marks_at_most_of all_windows d own raised x y || marks_at_most_through all_windows None own rounds x y))
 
 -- A step whose own change led to `told` leads on through the rounds, and the focus is settled then.
-abbrev pub LeadsByRounds : LeftOut → Happening → Desktop → Midstep → List Desktop → Midstep → Midstep → Type 0
-LeadsByRounds left h d told rounds mid last =
-    (path : List Desktop) × Leads left h d path last.desktop × IsSettled last.desktop
+abbrev pub LeadsByRounds : Happening → Desktop → Midstep → List Desktop → Midstep → Midstep → Type 0
+LeadsByRounds h d told rounds mid last =
+    (path : List Desktop) × Leads h d path last.desktop × IsSettled last.desktop
     × ((raised : Option (ℕ × ℕ)) → AreDistinct (all_windows told.desktop) → AreDistinct (all_windows mid.desktop)
     → MarksOwnAndEnds raised d told.desktop rounds path)
 
@@ -38,11 +37,11 @@ LeadsByRounds left h d told rounds mid last =
 
 abbrev pub MotionsByRounds : Type 0
 MotionsByRounds =
-    (left : LeftOut) (time : ℕ) (x y : ℤ) (d : Desktop) (gone told : Midstep) (rounds : List Desktop) (mid last : Midstep)
+    (time : ℕ) (x y : ℤ) (d : Desktop) (gone told : Midstep) (rounds : List Desktop) (mid last : Midstep)
     → PointerActs (GoTo (point_in d.output x y)) (unstruck d) gone
     → PointerActs (Went time) (placed (point_in d.output x y) gone) told
     → AreAllRounds told rounds mid last
-    → LeadsByRounds left (Single (Motion time x y) gave.Motion) d told rounds mid last
+    → LeadsByRounds (Single (Motion time x y) gave.Motion) d told rounds mid last
 
 -- ---- a button
 
@@ -54,22 +53,22 @@ counts false button d = is_down button d.pointer.buttons
 -- Where it counts, the focus is told, and rounds follow.
 abbrev pub ButtonsByRounds : Type 0
 ButtonsByRounds =
-    ((left : LeftOut) (time button : ℕ) (d : Desktop) (told : Midstep) (rounds : List Desktop) (mid last : Midstep)
+    ((time button : ℕ) (d : Desktop) (told : Midstep) (rounds : List Desktop) (mid last : Midstep)
     → counts true button d ≡ true
     → PointerActs (Press time button (grab_holder d)) (unstruck (with_press button d)) told
     → AreAllRounds told rounds mid last
-    → LeadsByRounds left (Single (Button time button true) gave.Button) d told rounds mid last)
-    × ((left : LeftOut) (time button : ℕ) (d : Desktop) (told : Midstep) (rounds : List Desktop) (mid last : Midstep)
+    → LeadsByRounds (Single (Button time button true) gave.Button) d told rounds mid last)
+    × ((time button : ℕ) (d : Desktop) (told : Midstep) (rounds : List Desktop) (mid last : Midstep)
     → counts false button d ≡ true
     → PointerActs (Release time button) (unstruck (with_release button d)) told
     → AreAllRounds told rounds mid last
-    → LeadsByRounds left (Single (Button time button false) gave.Button) d told rounds mid last)
+    → LeadsByRounds (Single (Button time button false) gave.Button) d told rounds mid last)
 
 -- Where it doesn't, nothing happens, and nothing is marked.
 abbrev pub ButtonsMayBeIdle : Type 0
 ButtonsMayBeIdle =
-    (left : LeftOut) (time button : ℕ) (pressed : Bool) (d : Desktop) → counts pressed button d ≡ false
-    → Leads left (Single (Button time button pressed) gave.Button) d (d ∷ []) d
+    (time button : ℕ) (pressed : Bool) (d : Desktop) → counts pressed button d ≡ false
+    → Leads (Single (Button time button pressed) gave.Button) d (d ∷ []) d
     × (raised_in (Button time button pressed) d ≡ None)
     × (AreDistinct (all_windows d) → (x y : ℤ)
     → (marks_at_least_through all_windows d (d ∷ []) x y ≡ false)

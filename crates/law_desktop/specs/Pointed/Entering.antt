@@ -5,7 +5,6 @@ use Rattle.spec_desktop.specs.Changing.{drawing, has_focus}
 use Rattle.spec_desktop.specs.Demand.{GetPointer}
 use Rattle.spec_desktop.specs.Desktop.{Desktop, Resident, unpointed}
 use Rattle.spec_desktop.specs.Happens.{Serves}
-use Rattle.spec_desktop.specs.LeftOut.{LeftOut}
 use Rattle.spec_desktop.specs.Replies.{entered_at, focus_window}
 use Rattle.spec_desktop.specs.Settling.{EndsAndSettles, Midstep, Tells, unstruck}
 use Rattle.spec_desktop.specs.Stacked.{all_windows}
@@ -24,15 +23,15 @@ TellsNew id c d told = Tells (drawing true) (new_entered id d) c (unstruck d) to
 -- back, the new wl_pointer is told, its client ends where that isn't queued, and the focus is settled.
 abbrev pub NewPointerApart : Type 0
 NewPointerApart =
-    (left : LeftOut) (c id version : ℕ) (d e new : Desktop) (told : Midstep) → MovedStands d → asked left c d ≡ Some (GetPointer id version)
-    → has_focus c d.pointer.focus ≡ true → Serves left c (unpointed d) e → TellsNew id c (put_back left c d e) told
-    → EndsAndSettles told new → Serves left c d new
+    (c id version : ℕ) (d e new : Desktop) (told : Midstep) → MovedStands d → asked c d ≡ Some (GetPointer id version)
+    → has_focus c d.pointer.focus ≡ true → Serves c (unpointed d) e → TellsNew id c (put_back c d e) told
+    → EndsAndSettles told new → Serves c d new
 
 -- So it is with the desktops on the way: its own change is all that it leads through with the pointer put aside.
 abbrev pub NewPointerApartThrough : Type 0
 NewPointerApartThrough =
-    (left : LeftOut) (c id version : ℕ) (d : Desktop) (path : List Desktop) (e : Desktop) (told : Midstep) → MovedStands d
-    → asked left c d ≡ Some (GetPointer id version) → has_focus c d.pointer.focus ≡ true → ServesThrough left c (unpointed d) path e
-    → TellsNew id c (put_back left c d e) told
+    (c id version : ℕ) (d : Desktop) (path : List Desktop) (e : Desktop) (told : Midstep) → MovedStands d
+    → asked c d ≡ Some (GetPointer id version) → has_focus c d.pointer.focus ≡ true → ServesThrough c (unpointed d) path e
+    → TellsNew id c (put_back c d e) told
     → (path ≡ e ∷ e ∷ [])
-    × ((later : List Desktop) (new : Desktop) → settling_through later new told → ServesThrough left c d later new)
+    × ((later : List Desktop) (new : Desktop) → settling_through later new told → ServesThrough c d later new)

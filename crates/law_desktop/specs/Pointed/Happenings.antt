@@ -9,7 +9,6 @@ use Rattle.spec_desktop.specs.declared.answers.Done.TheVariants as gave
 use Rattle.spec_desktop.specs.Act.{Act, Connect, Feed, Store, Leave, Tick, Send, Close, Motion, Button}
 use Rattle.spec_desktop.specs.Desktop.{Desktop, Resident, status_in, unpointed}
 use Rattle.spec_desktop.specs.Happenings.{Happening, Leads, Message, Receive, Single, Starve}
-use Rattle.spec_desktop.specs.LeftOut.{LeftOut}
 use Rattle.spec_desktop.specs.Settling.{EndsAndSettles, Midstep, SettlesAll, becomes, pointer_without, unstruck}
 use Rattle.spec_desktop.specs.Through.{settling_through}
 use Rattle.law_desktop.specs.Pointed.Apart.{SettlesOn}
@@ -48,9 +47,9 @@ is_quiet (Single act done) = is_quiet_act act done
 -- The pointer stays as it is.
 abbrev pub QuietApart : Type 0
 QuietApart =
-    (left : LeftOut) (h : Happening) (d : Desktop) (path : List Desktop) (e : Desktop)
-    → is_quiet h ≡ true → Leads left h (unpointed d) path e
-    → Leads left h d (pointed d.pointer e ∷ []) (pointed d.pointer e)
+    (h : Happening) (d : Desktop) (path : List Desktop) (e : Desktop)
+    → is_quiet h ≡ true → Leads h (unpointed d) path e
+    → Leads h d (pointed d.pointer e ∷ []) (pointed d.pointer e)
 
 -- ---- where its client ends
 
@@ -61,9 +60,9 @@ IsEndOf c h = (h ≡ Starve c) ⊎ (h ≡ Single (Leave c) (gave.Gone true))
 -- The pointer leaves the client, and its focus is settled.
 abbrev pub EndsApart : Type 0
 EndsApart =
-    (left : LeftOut) (c : ℕ) (h : Happening) (d : Desktop) (path : List Desktop) (e : Desktop)
-    → IsEndOf c h → Leads left h (unpointed d) path e
-    → SettlesOn (pointed (pointer_without c d.pointer)) (Leads left h d) path e
+    (c : ℕ) (h : Happening) (d : Desktop) (path : List Desktop) (e : Desktop)
+    → IsEndOf c h → Leads h (unpointed d) path e
+    → SettlesOn (pointed (pointer_without c d.pointer)) (Leads h d) path e
 
 -- The same of the end of a client for whatever cause, with the desktops on the way and without.
 abbrev pub EndedApart : Type 0
@@ -93,6 +92,6 @@ pointer_left d e = record d.pointer { focus = unless_ended d e d.pointer.focus; 
 -- The pointer leaves each client that ended since an event of its wasn't queued, and its focus is settled.
 abbrev pub FramesApart : Type 0
 FramesApart =
-    (left : LeftOut) (time : ℕ) (done : Done) (d : Desktop) (path : List Desktop) (e : Desktop)
-    → Leads left (Single (Tick time) done) (unpointed d) path e
-    → SettlesOn (λ x. pointed (pointer_left d x) x) (Leads left (Single (Tick time) done) d) path e
+    (time : ℕ) (done : Done) (d : Desktop) (path : List Desktop) (e : Desktop)
+    → Leads (Single (Tick time) done) (unpointed d) path e
+    → SettlesOn (λ x. pointed (pointer_left d x) x) (Leads (Single (Tick time) done) d) path e

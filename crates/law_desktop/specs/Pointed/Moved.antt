@@ -6,7 +6,6 @@ use Rattle.spec_desktop.specs.Windows.{Place}
 use Rattle.spec_desktop.specs.Desktop.{Desktop, empty}
 use Rattle.spec_desktop.specs.Happenings.{Happening, Leads}
 use Rattle.spec_desktop.specs.Happens.{placed, with_press, with_release}
-use Rattle.spec_desktop.specs.LeftOut.{LeftOut}
 use Rattle.spec_desktop.specs.Settling.{Midstep, PointerActs, Settles, Strike, ended_by}
 use Rattle.law_desktop.specs.Pointed.Pointed.{MovedStands}
 use Rattle.law_desktop.specs.Pointed.Rounds.{AreRounds}
@@ -15,8 +14,8 @@ use Rattle.law_desktop.specs.Pointed.Rounds.{AreRounds}
 abbrev pub MovedStandsOn : Type 0
 MovedStandsOn =
     ((output : Output) → MovedStands (empty output))
-    × ((left : LeftOut) (h : Happening) (d : Desktop) (path : List Desktop) (new : Desktop)
-    → MovedStands d → Leads left h d path new → MovedStands new)
+    × ((h : Happening) (d : Desktop) (path : List Desktop) (new : Desktop)
+    → MovedStands d → Leads h d path new → MovedStands new)
 
 -- So it does in the middle of a step: after a client's end, whatever the pointer does, where the focus is settled, and after rounds.
 abbrev pub MovedStandsMid : Type 0

@@ -11,7 +11,6 @@ use Rattle.spec_desktop.specs.Changing.{has_focus, kept_move, moving_from}
 use Rattle.spec_desktop.specs.Demand.{Demand, GetPointer, Move}
 use Rattle.spec_desktop.specs.Demanding.{judge_all}
 use Rattle.spec_desktop.specs.Desktop.{Desktop, Resident, client_at, status_in}
-use Rattle.spec_desktop.specs.LeftOut.{LeftOut}
 use Rattle.spec_desktop.specs.Settling.{pointer_without}
 use Rattle.spec_desktop.specs.Stacked.{all_windows}
 
@@ -29,22 +28,22 @@ abbrev pub asked_of : Result Demand Refusal → Option Demand
 asked_of (Ok demand) = Some demand
 asked_of (Err refusal) = None
 
-abbrev pub asked_first : LeftOut → Split → Resident → Option Demand
-asked_first left (Whole object opcode size) r = asked_of (judge_all left r object opcode (take (size - 8) (drop 8 r.peer.rest)))
-asked_first left Bad r = None
-asked_first left More r = None
+abbrev pub asked_first : Split → Resident → Option Demand
+asked_first (Whole object opcode size) r = asked_of (judge_all r object opcode (take (size - 8) (drop 8 r.peer.rest)))
+asked_first Bad r = None
+asked_first More r = None
 
-abbrev pub asked_by : LeftOut → Option Resident → Option Demand
-asked_by left None = None
-asked_by left (Some r) = asked_first left (split_of r.peer.rest) r
+abbrev pub asked_by : Option Resident → Option Demand
+asked_by None = None
+asked_by (Some r) = asked_first (split_of r.peer.rest) r
 
 -- what the first whole message that has come of a client asks, if it isn't refused
-abbrev pub asked : LeftOut → ℕ → Desktop → Option Demand
-asked left c d = asked_by left (client_at c d)
+abbrev pub asked : ℕ → Desktop → Option Demand
+asked c d = asked_by (client_at c d)
 
 -- It isn't wl_seat.get_pointer of the client that has the focus: that one is told of the focus.
-abbrev pub AsksNoFocus : LeftOut → ℕ → Desktop → Type 0
-AsksNoFocus left c d = (id version : ℕ) → asked left c d ≡ Some (GetPointer id version) → has_focus c d.pointer.focus ≡ false
+abbrev pub AsksNoFocus : ℕ → Desktop → Type 0
+AsksNoFocus c d = (id version : ℕ) → asked c d ≡ Some (GetPointer id version) → has_focus c d.pointer.focus ≡ false
 
 -- ---- the pointer after a message
 
@@ -67,8 +66,8 @@ abbrev pub keeping : List Standing → Pointer → Pointer
 keeping standing p = record p { move = kept_move p.move standing }
 
 -- The pointer of d after a message of this client that led, with the pointer put aside, to e.
-abbrev pub pointer_after : LeftOut → ℕ → Desktop → Desktop → Pointer
-pointer_after left c d e = keeping e.standing (pointer_if (status_in c e) c (pointer_asked (asked left c d) c d))
+abbrev pub pointer_after : ℕ → Desktop → Desktop → Pointer
+pointer_after c d e = keeping e.standing (pointer_if (status_in c e) c (pointer_asked (asked c d) c d))
 
-abbrev pub put_back : LeftOut → ℕ → Desktop → Desktop → Desktop
-put_back left c d e = pointed (pointer_after left c d e) e
+abbrev pub put_back : ℕ → Desktop → Desktop → Desktop
+put_back c d e = pointed (pointer_after c d e) e

@@ -9,7 +9,6 @@ use Rattle.spec_desktop.specs.Changing.{in_rising_order}
 use Rattle.spec_desktop.specs.Demand.{GetPointer}
 use Rattle.spec_desktop.specs.Desktop.{Desktop, Resident, client_at, status_in}
 use Rattle.spec_desktop.specs.Happenings.{Happening, Leads, Message, Single}
-use Rattle.spec_desktop.specs.LeftOut.{LeftOut}
 use Rattle.spec_desktop.specs.Settling.{Midstep}
 use Rattle.spec_desktop.specs.Stacked.{all_windows}
 use Rattle.spec_desktop.specs.Through.{ServesThrough}
@@ -19,29 +18,29 @@ use Rattle.law_desktop.specs.Pointed.Rounds.{AreRounds, AreToEnd}
 -- ---- wl_pointers
 
 -- a client had the wl_pointers that it has, and asked for none
-abbrev pub HadPointers : LeftOut → Happening → Desktop → ℕ → Resident → Type 0
-HadPointers left h d c q =
+abbrev pub HadPointers : Happening → Desktop → ℕ → Resident → Type 0
+HadPointers h d c q =
     (r : Resident) × (client_at c d ≡ Some r) × (r.peer.status ≡ None) × (q.pointers ≡ r.pointers)
-    × ((id version : ℕ) → h ≡ Message c → asked left c d ≡ Some (GetPointer id version) → ⊥)
+    × ((id version : ℕ) → h ≡ Message c → asked c d ≡ Some (GetPointer id version) → ⊥)
 
 -- or it asked for one more (wayland.xml, wl_seat.get_pointer)
-abbrev pub AskedForPointer : LeftOut → Happening → Desktop → ℕ → Resident → Type 0
-AskedForPointer left h d c q =
+abbrev pub AskedForPointer : Happening → Desktop → ℕ → Resident → Type 0
+AskedForPointer h d c q =
     (r : Resident) × (id : ℕ) × (version : ℕ) × (client_at c d ≡ Some r) × (r.peer.status ≡ None) × (h ≡ Message c)
-    × (asked left c d ≡ Some (GetPointer id version)) × (q.pointers ≡ in_rising_order id r.pointers)
+    × (asked c d ≡ Some (GetPointer id version)) × (q.pointers ≡ in_rising_order id r.pointers)
 
 -- or it came, and has none yet
 abbrev pub CameWithoutPointers : Happening → ℕ → Resident → Type 0
 CameWithoutPointers h c q = (h ≡ Single Connect (gave.Connect (Ok c))) × (q.pointers ≡ [])
 
-abbrev pub HasPointersAfter : LeftOut → Happening → Desktop → ℕ → Resident → Type 0
-HasPointersAfter left h d c q = HadPointers left h d c q ⊎ (AskedForPointer left h d c q ⊎ CameWithoutPointers h c q)
+abbrev pub HasPointersAfter : Happening → Desktop → ℕ → Resident → Type 0
+HasPointersAfter h d c q = HadPointers h d c q ⊎ (AskedForPointer h d c q ⊎ CameWithoutPointers h c q)
 
 -- Only wl_seat.get_pointer changes which wl_pointers a client that lives has.
 abbrev pub PointersStay : Type 0
 PointersStay =
-    (left : LeftOut) (h : Happening) (d : Desktop) (path : List Desktop) (e : Desktop) (c : ℕ) (q : Resident)
-    → Leads left h d path e → client_at c e ≡ Some q → q.peer.status ≡ None → HasPointersAfter left h d c q
+    (h : Happening) (d : Desktop) (path : List Desktop) (e : Desktop) (c : ℕ) (q : Resident)
+    → Leads h d path e → client_at c e ≡ Some q → q.peer.status ≡ None → HasPointersAfter h d c q
 
 -- ---- serials
 
@@ -61,14 +60,14 @@ IsNoButton h = (time button : ℕ) (pressed : Bool) (done : Done) → h ≢ Sing
 -- Only a button changes of which press and of which release a client that lives was told last.
 abbrev pub SerialsStay : Type 0
 SerialsStay =
-    (left : LeftOut) (h : Happening) (d : Desktop) (path : List Desktop) (e : Desktop) (c : ℕ) (q : Resident) → IsNoButton h
-    → Leads left h d path e → client_at c e ≡ Some q → q.peer.status ≡ None → HadSerials d c q ⊎ CameWithoutSerials h c q
+    (h : Happening) (d : Desktop) (path : List Desktop) (e : Desktop) (c : ℕ) (q : Resident) → IsNoButton h
+    → Leads h d path e → client_at c e ≡ Some q → q.peer.status ≡ None → HadSerials d c q ⊎ CameWithoutSerials h c q
 
 -- Where nobody points, a client that gets a wl_pointer and lives on leaves all windows as they are.
 abbrev pub NewPointerShowsNothing : Type 0
 NewPointerShowsNothing =
-    (left : LeftOut) (c id version : ℕ) (d : Desktop) (path : List Desktop) (e : Desktop) → d.pointer ≡ first_pointer
-    → asked left c d ≡ Some (GetPointer id version) → ServesThrough left c d path e → status_in c e ≡ None
+    (c id version : ℕ) (d : Desktop) (path : List Desktop) (e : Desktop) → d.pointer ≡ first_pointer
+    → asked c d ≡ Some (GetPointer id version) → ServesThrough c d path e → status_in c e ≡ None
     → all_windows e ≡ all_windows d
 
 -- ---- ends
@@ -76,8 +75,8 @@ NewPointerShowsNothing =
 -- A client that ended stays so, for the same cause, whatever happens but that its number is given back; and round by round.
 abbrev pub EndedStay : Type 0
 EndedStay =
-    ((left : LeftOut) (h : Happening) (d : Desktop) (path : List Desktop) (e : Desktop) (c : ℕ) (why : Cause) → length d.clients ≤ 32
-    → Leads left h d path e → h ≢ Single (Close c) (gave.Close true) → status_in c d ≡ Some why → status_in c e ≡ Some why)
+    ((h : Happening) (d : Desktop) (path : List Desktop) (e : Desktop) (c : ℕ) (why : Cause) → length d.clients ≤ 32
+    → Leads h d path e → h ≢ Single (Close c) (gave.Close true) → status_in c d ≡ Some why → status_in c e ≡ Some why)
     × ((n : ℕ) (old new : Midstep) (path : List Desktop) (c : ℕ) (why : Cause) → AreToEnd old.struck old.desktop
     → AreRounds n old path new → status_in c old.desktop ≡ Some why → status_in c new.desktop ≡ Some why)
 

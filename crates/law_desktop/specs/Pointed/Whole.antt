@@ -3,7 +3,6 @@ use Rattle.std.specs.Prelude.{ℕ, ℤ, ◌≡◌, ◌<◌, ◌||◌, Option, No
 use Rattle.spec_desktop.specs.Pointer.{Pointer}
 use Rattle.spec_desktop.specs.Desktop.{Desktop, unpointed}
 use Rattle.spec_desktop.specs.Happenings.{Happening, Leads}
-use Rattle.spec_desktop.specs.LeftOut.{LeftOut}
 use Rattle.spec_desktop.specs.Marks.{AreDistinct}
 use Rattle.spec_desktop.specs.Moments.{marks_at_least_through, marks_at_most_through}
 use Rattle.spec_desktop.specs.Settling.{Midstep, Settles, unstruck}
@@ -34,8 +33,8 @@ MarksBoth raised d aside start rounds path =
 -- focus is settled then.
 abbrev pub StepsByRounds : Type 0
 StepsByRounds =
-    (left : LeftOut) (h : Happening) (p : Desktop → Pointer) (d : Desktop) (aside : List Desktop) (e : Desktop) (rounds : List Desktop)
-    (mid last : Midstep) → SettlesOn (λ a. pointed (p a) a) (Leads left h d) aside e → AreAllRounds (unstruck (pointed (p e) e)) rounds mid last
-    → (path : List Desktop) × Leads left h d path last.desktop × IsSettled last.desktop
+    (h : Happening) (p : Desktop → Pointer) (d : Desktop) (aside : List Desktop) (e : Desktop) (rounds : List Desktop)
+    (mid last : Midstep) → SettlesOn (λ a. pointed (p a) a) (Leads h d) aside e → AreAllRounds (unstruck (pointed (p e) e)) rounds mid last
+    → (path : List Desktop) × Leads h d path last.desktop × IsSettled last.desktop
     × ((raised : Option (ℕ × ℕ)) → AreDistinct (all_windows e) → AreDistinct (all_windows mid.desktop)
     → MarksBoth raised d aside (pointed (p e) e) rounds path)

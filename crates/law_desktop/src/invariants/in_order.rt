@@ -1,5 +1,5 @@
 //! What each client owns is in order wherever nobody points, with subsurfaces and with popups: one invariant, which each step
-//! keeps, and each message by itself, whatever is left out. Each law is a function that does nothing and promises it.
+//! keeps, and each message by itself. Each law is a function that does nothing and promises it.
 
 ghost use Rattle.law_desktop.specs.InOrderLaws.{ClientsAreInOrder, DemandsKeepInOrder, EmptyIsInOrder, EndsKeepInOrder};
 ghost use Rattle.law_desktop.specs.InOrderLaws.{FramesKeepInOrder, InOrderIsSound, InOrderStays, MessagesKeepInOrder};
@@ -31,7 +31,7 @@ pub fn popups_rise()
     ensures { PopupsRise }
 {}
 
-/// Whatever happens that leaves the pointer alone leaves a desktop in order, whatever is left out.
+/// Whatever happens that leaves the pointer alone leaves a desktop in order.
 pub fn in_order_stays()
     ensures { InOrderStays }
 {}
@@ -61,7 +61,7 @@ pub fn peers_keep_in_order()
     ensures { PeersKeepInOrder }
 {}
 
-/// What an accepted message demands leaves a client what it owns in order, whatever is left out.
+/// What an accepted message demands leaves a client what it owns in order.
 pub fn demands_keep_in_order()
     ensures { DemandsKeepInOrder }
 {}

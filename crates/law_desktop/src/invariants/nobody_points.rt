@@ -9,7 +9,7 @@ pub fn empty_is_unpointed()
     ensures { EmptyIsUnpointed }
 {}
 
-/// Whatever happens that leaves the pointer alone leaves it so, whatever is left out.
+/// Whatever happens that leaves the pointer alone leaves it so.
 pub fn unpointed_stays()
     ensures { UnpointedStays }
 {}

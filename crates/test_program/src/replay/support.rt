@@ -17,9 +17,9 @@ impl SideFiles for NoFiles {
 
     ghost gives = { λ _ _ _. Unit {0} };
 
-    ghost opens = { λ _ _ _ _. Unit {0} };
+    ghost opens = { λ _ _ _ _ _. Unit {0} };
 
-    fn open(&mut self, _name: &str) -> Result<bool, SideFault> {
+    fn open(&mut self, _name: &str, _from: u32) -> Result<bool, SideFault> {
         Ok(false)
     }
 
@@ -79,15 +79,18 @@ impl SideFiles for OneFile<'_> {
 
     ghost gives = { λ old bytes new. old.rest.now ≡ bytes ++ new.rest.now };
 
-    ghost opens = { λ old name there new. there ≡ true → new.rest.now ≡ old.bytes.now };
+    ghost opens = { λ old name from there new. from ≡ 0 → there ≡ true → new.rest.now ≡ old.bytes.now };
 
-    fn open(&mut self, name: &str) -> Result<bool, SideFault> {
+    /// Of a file that isn't read from its start on nothing is given.
+    fn open(&mut self, name: &str, from: u32) -> Result<bool, SideFault> {
         self.opens = self.opens.saturating_add(1);
         self.rest = &[];
         if name != self.name {
             return Ok(false);
         }
-        self.rest = self.bytes;
+        if from == 0 {
+            self.rest = self.bytes;
+        }
         Ok(true)
     }
 

@@ -13,7 +13,6 @@ use Rattle.spec_desktop.specs.Demand.{Demand}
 use Rattle.law_desktop.specs.Subsurfaces.{AreOfSurfaces}
 use Rattle.spec_desktop.specs.Desktop.{Desktop, Resident, Subsurface, status_in}
 use Rattle.spec_desktop.specs.Happens.{Serves}
-use Rattle.spec_desktop.specs.LeftOut.{nothing_left_out}
 use Rattle.spec_desktop.specs.Through.{ServesThrough}
 use Rattle.wl_proto.specs.declared.wl_subsurface.WlSubsurfaceRequest.TheVariants as subsurface
 use Rattle.wl_proto.specs.declared.wl_surface.WlSurfaceRequest.TheVariants as surface
@@ -117,7 +116,7 @@ module _ {A : Type 0} (laws : MessageLaws) (c : ℕ) (others : ℕ → ById ℕ)
   answers : TakesSo (split_of r.peer.rest) c r d old mid stacking
   answers = a.takes resident owns placed
 
-  untouched : (demand : Demand) → IsDemanded nothing_left_out (split_of r.peer.rest) r demand → touched_by demand r ≡ None
+  untouched : (demand : Demand) → IsDemanded (split_of r.peer.rest) r demand → touched_by demand r ≡ None
   untouched demand demanded = at (touch-named old r asked demand None resident owns a.asks demanded a.by)
     where
       at : IsTouchNamed old r demand None → touched_by demand r ≡ None
@@ -149,15 +148,15 @@ module _ {A : Type 0} (laws : MessageLaws) (c : ℕ) (others : ℕ → ById ℕ)
   keeps : mid.client.ended ≡ None → KeepsNumbers old.client.objects mid.client.objects
   keeps none = (left-of (split_of r.peer.rest) c r d old mid stacking answers).2.numbers none
 
-  pub alone-seated : (e : Desktop) × (q : Resident) × Serves nothing_left_out c d e × IsSeated c others base left (pile_of new) e q
+  pub alone-seated : (e : Desktop) × (q : Resident) × Serves c d e × IsSeated c others base left (pile_of new) e q
   alone-seated = settled-seated (ways laws) c others base d r old mid left was new before ordered alive untouched a.clears a.points a.same m keeps
 
-  pub alone-least : (e : Desktop) (q : Resident) → Serves nothing_left_out c d e → IsSeated c others base left (pile_of new) e q → MarksAtLeast d e was.damage new.damage
+  pub alone-least : (e : Desktop) (q : Resident) → Serves c d e → IsSeated c others base left (pile_of new) e q → MarksAtLeast d e was.damage new.damage
   alone-least = settled-least (ways laws) c others base d r old mid left was new before ordered alive untouched a.clears a.points a.same
 
-  pub alone-most : (e : Desktop) (q : Resident) → Serves nothing_left_out c d e → IsSeated c others base left (pile_of new) e q → status_in c e ≡ None → MarksMost d e was.damage new.damage
+  pub alone-most : (e : Desktop) (q : Resident) → Serves c d e → IsSeated c others base left (pile_of new) e q → status_in c e ≡ None → MarksMost d e was.damage new.damage
   alone-most = settled-most (ways laws) c others base d r old mid left was new before ordered alive untouched a.clears a.points a.same
 
-  pub alone-through : (e : Desktop) × (q : Resident) × (path : List Desktop) × ServesThrough nothing_left_out c d path e × IsSeated c others base left (pile_of new) e q
+  pub alone-through : (e : Desktop) × (q : Resident) × (path : List Desktop) × ServesThrough c d path e × IsSeated c others base left (pile_of new) e q
       × MarksThrough d path was.damage new.damage
   alone-through = settled-through (ways laws) c others base d r old mid left was new before ordered alive untouched a.clears a.points a.same m keeps width height

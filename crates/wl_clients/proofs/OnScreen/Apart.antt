@@ -11,7 +11,6 @@ use Rattle.spec_desktop.specs.Objects.{ById}
 use Rattle.spec_desktop.specs.Demand.{Demand}
 use Rattle.spec_desktop.specs.Desktop.{Desktop, Resident, client_at, owned_in, owned_of, status_in}
 use Rattle.spec_desktop.specs.Happens.{Serves}
-use Rattle.spec_desktop.specs.LeftOut.{nothing_left_out}
 use Rattle.spec_desktop.specs.Stacked.{all_windows}
 use Rattle.spec_desktop.specs.Through.{ServesThrough}
 use Rattle.law_desktop.specs.Ordered.{Ordered}
@@ -78,22 +77,22 @@ module _ {A : Type 0} (c : ℕ) (others : ℕ → ById ℕ) (base d : Desktop) (
 -- ---- it lives on
 
 module _ {A : Type 0} (laws : WayLaws) (c : ℕ) (others : ℕ → ById ℕ) (base d : Desktop) (r : Resident) (old mid : Kept A) (was : Screen A) (before : IsSeated c others base old (pile_of was) d r)
-    (ordered : Ordered d) (alive : r.peer.status ≡ None) (untouched : (demand : Demand) → IsDemanded nothing_left_out (split_of r.peer.rest) r demand → touched_by demand r ≡ None)
+    (ordered : Ordered d) (alive : r.peer.status ≡ None) (untouched : (demand : Demand) → IsDemanded (split_of r.peer.rest) r demand → touched_by demand r ≡ None)
     (lives : mid.client.ended ≡ None) where
   -- no window changes
-  apart-stays : (e : Desktop) → Serves nothing_left_out c d e → status_in c e ≡ None → StaysPainted d e
+  apart-stays : (e : Desktop) → Serves c d e → status_in c e ≡ None → StaysPainted d e
   apart-stays e serves status =
-      let m : MessageChanges nothing_left_out c r d e = messages-change nothing_left_out c r d e ordered.in_order before.mapped before.based.there serves status in
+      let m : MessageChanges c r d e = messages-change c r d e ordered.in_order before.mapped before.based.there serves status in
       subst (λ (id : Option ℕ). ChangesAt id c d e) (untouched m.demand m.demanded) m.changes
 
   -- any desktop to which it leads
-  pub apart-least : (e : Desktop) (q : Resident) → Serves nothing_left_out c d e → IsSeated c others base mid (pile_of was) e q → MarksAtLeast d e was.damage was.damage
+  pub apart-least : (e : Desktop) (q : Resident) → Serves c d e → IsSeated c others base mid (pile_of was) e q → MarksAtLeast d e was.damage was.damage
   apart-least e q serves after =
       untouched-least d e (apart-stays e serves (status-after laws c others base d r old mid was was before ordered alive lives e q after)) was.damage
 
   -- one to which it leads
   module _ (m : Taken c others base d r mid was) (keeps : KeepsNumbers old.client.objects mid.client.objects) where
-    apart-serves : Serves nothing_left_out c d m.after
+    apart-serves : Serves c d m.after
     apart-serves = led-serves laws c others base d r old mid was was before ordered alive lives m
 
     stays : StaysPainted d m.after
@@ -105,10 +104,10 @@ module _ {A : Type 0} (laws : WayLaws) (c : ℕ) (others : ℕ → ById ℕ) (ba
         (trees-after laws c others base d r old mid was was before ordered alive lives m.after apart-serves) stays.windows
         (same-numbers c others base d r old mid was before keeps m.after m.resident m.sits.based.there m.sits.seat) before.windows
 
-    pub apart-seated : (e : Desktop) × (q : Resident) × Serves nothing_left_out c d e × IsSeated c others base mid (pile_of was) e q
+    pub apart-seated : (e : Desktop) × (q : Resident) × Serves c d e × IsSeated c others base mid (pile_of was) e q
     apart-seated = led-seated laws c others base d r old mid was was before ordered alive lives m windows
 
-    pub apart-through : (e : Desktop) × (q : Resident) × (path : List Desktop) × ServesThrough nothing_left_out c d path e × IsSeated c others base mid (pile_of was) e q
+    pub apart-through : (e : Desktop) × (q : Resident) × (path : List Desktop) × ServesThrough c d path e × IsSeated c others base mid (pile_of was) e q
         × MarksThrough d path was.damage was.damage
     apart-through =
         led-through laws c others base d r old mid was was before ordered alive lives m windows (untouched-least d m.after stays was.damage) (untouched-most d m.after was.damage)
@@ -121,7 +120,7 @@ or-none false = refl
 
 module _ {A : Type 0} (laws : WayLaws) (c : ℕ) (others : ℕ → ById ℕ) (base d : Desktop) (r : Resident) (old mid left : Kept A) (was new : Screen A)
     (before : IsSeated c others base old (pile_of was) d r) (ordered : Ordered d) (alive : r.peer.status ≡ None)
-    (untouched : (demand : Demand) → IsDemanded nothing_left_out (split_of r.peer.rest) r demand → touched_by demand r ≡ None)
+    (untouched : (demand : Demand) → IsDemanded (split_of r.peer.rest) r demand → touched_by demand r ≡ None)
     (clears : IsClearedBy mid.client.ended c mid left (pile_of was) (pile_of new))
     (points : is_some mid.client.ended ≡ true → (x y : ℕ) → x < was.damage.width → y < was.damage.height
     → has new.damage x y ≡ (has was.damage x y || has_own c (pos x) (pos y) was.stacked.windows))
@@ -140,7 +139,7 @@ module _ {A : Type 0} (laws : WayLaws) (c : ℕ) (others : ℕ → ById ℕ) (ba
   tells-end : (e : Desktop) (b : Bool) → TellsEnd c r d e (λ n. n) [] b
   tells-end e b = record { undone = λ no. refl; turned = λ done path s. inl (stays path s, refl) }
     where
-      stays : (path : List Desktop) (s : Struck nothing_left_out c r d path e) → StaysPainted d s.own
+      stays : (path : List Desktop) (s : Struck c r d path e) → StaysPainted d s.own
       stays path s =
           (touches-nothing c r s.before s.demand d s.own
           (record {
@@ -163,7 +162,7 @@ module _ {A : Type 0} (laws : WayLaws) (c : ℕ) (others : ℕ → ById ℕ) (ba
 
   -- ---- any desktop to which it leads
 
-  pub settled-least : (e : Desktop) (q : Resident) → Serves nothing_left_out c d e → IsSeated c others base left (pile_of new) e q → MarksAtLeast d e was.damage new.damage
+  pub settled-least : (e : Desktop) (q : Resident) → Serves c d e → IsSeated c others base left (pile_of new) e q → MarksAtLeast d e was.damage new.damage
   settled-least e q serves after = at mid.client.ended refl
     where
       at : (o : Option Cause) → mid.client.ended ≡ o → MarksAtLeast d e was.damage new.damage
@@ -172,7 +171,7 @@ module _ {A : Type 0} (laws : WayLaws) (c : ℕ) (others : ℕ → ById ℕ) (ba
           (apart-least laws c others base d r old mid was before ordered alive untouched none e q serves (same-seated none e q after))
       at (Some cause) over = ended-least laws c others base d r old mid left was new before ordered alive cause over (ending cause over) e q serves after
 
-  pub settled-most : (e : Desktop) (q : Resident) → Serves nothing_left_out c d e → IsSeated c others base left (pile_of new) e q → status_in c e ≡ None → MarksMost d e was.damage new.damage
+  pub settled-most : (e : Desktop) (q : Resident) → Serves c d e → IsSeated c others base left (pile_of new) e q → status_in c e ≡ None → MarksMost d e was.damage new.damage
   settled-most e q serves after status = at mid.client.ended refl
     where
       at : (o : Option Cause) → mid.client.ended ≡ o → MarksMost d e was.damage new.damage
@@ -183,13 +182,13 @@ module _ {A : Type 0} (laws : WayLaws) (c : ℕ) (others : ℕ → ById ℕ) (ba
 
   module _ (m : Taken c others base d r left new) (keeps : mid.client.ended ≡ None → KeepsNumbers old.client.objects mid.client.objects) where
     abbrev Seats : Kept A → Screen A → Type 0
-    Seats k s = (e : Desktop) × (q : Resident) × Serves nothing_left_out c d e × IsSeated c others base k (pile_of s) e q
+    Seats k s = (e : Desktop) × (q : Resident) × Serves c d e × IsSeated c others base k (pile_of s) e q
 
     abbrev Leads : Kept A → Screen A → Type 0
     Leads k s =
-        (e : Desktop) × (q : Resident) × (path : List Desktop) × ServesThrough nothing_left_out c d path e × IsSeated c others base k (pile_of s) e q × MarksThrough d path was.damage s.damage
+        (e : Desktop) × (q : Resident) × (path : List Desktop) × ServesThrough c d path e × IsSeated c others base k (pile_of s) e q × MarksThrough d path was.damage s.damage
 
-    pub settled-seated : (e : Desktop) × (q : Resident) × Serves nothing_left_out c d e × IsSeated c others base left (pile_of new) e q
+    pub settled-seated : (e : Desktop) × (q : Resident) × Serves c d e × IsSeated c others base left (pile_of new) e q
     settled-seated = at mid.client.ended refl
       where
         at : (o : Option Cause) → mid.client.ended ≡ o → Seats left new
@@ -200,7 +199,7 @@ module _ {A : Type 0} (laws : WayLaws) (c : ℕ) (others : ℕ → ById ℕ) (ba
         at (Some cause) over = ended-seated laws c others base d r old mid left was new before ordered alive cause over (ending cause over) m
 
     pub settled-through : was.damage.width ≡ d.output.width → was.damage.height ≡ d.output.height
-        → (e : Desktop) × (q : Resident) × (path : List Desktop) × ServesThrough nothing_left_out c d path e × IsSeated c others base left (pile_of new) e q
+        → (e : Desktop) × (q : Resident) × (path : List Desktop) × ServesThrough c d path e × IsSeated c others base left (pile_of new) e q
         × MarksThrough d path was.damage new.damage
     unfolding ending
     settled-through width height = at mid.client.ended refl

@@ -7,7 +7,6 @@ use Rattle.law_desktop.specs.Ordered.{OwnsOrdered}
 use Rattle.spec_desktop.specs.Peer.{Peer}
 use Rattle.spec_desktop.specs.Demand.{Demand, EndToplevel}
 use Rattle.spec_desktop.specs.Desktop.{Desktop, Resident}
-use Rattle.spec_desktop.specs.LeftOut.{nothing_left_out}
 use Rattle.wl_requests.specs.declared.messages.Asked.{Asked}
 use Rattle.wl_requests.specs.declared.residents.Resident.{Resident as Kept}
 use Rattle.wl_requests.specs.declared.residents.Stacking.{Stacking}
@@ -37,7 +36,7 @@ applied-value None some = absurd (true≢false (sym some))
 applied-value (Some x) some = (x, refl)
 
 module _ {A : Type 0} (old mid : Kept A) (r : Resident) (p : Peer) (c : ℕ) (d : Desktop) (resident : IsResident old r) (owns : OwnsOrdered r) (asked : Asked) (asks : IsAsked old.client asked)
-    (surface : ℕ) (by : IsTouchedBy old asked (Some surface)) (demand : Demand) (demanded : IsDemanded nothing_left_out (split_of r.peer.rest) r demand) (stacking : Stacking)
+    (surface : ℕ) (by : IsTouchedBy old asked (Some surface)) (demand : Demand) (demanded : IsDemanded (split_of r.peer.rest) r demand) (stacking : Stacking)
     (stacks : StacksFor old r demand stacking) (applied : Option (Applied A))
     (touched_so : (touch : Touch) → IsTouchOfAsked asked old touch → IsTouched touch old.owned.surfaces mid.owned.surfaces applied)
     (some_applied : (touch : Touch) → IsTouchOfAsked asked old touch → is_some applied ≡ true) where

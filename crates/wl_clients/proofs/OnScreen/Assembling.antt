@@ -18,7 +18,6 @@ use Rattle.wl_surface.specs.Slots.{count}
 use Rattle.wl_surface.specs.declared.applied.Applied.{Applied}
 use Rattle.spec_desktop.specs.Desktop.{Desktop, Resident, client_at, owned_in, owned_of, status_of}
 use Rattle.spec_desktop.specs.Happens.{Serves}
-use Rattle.spec_desktop.specs.LeftOut.{nothing_left_out}
 use Rattle.spec_desktop.specs.Marks.{in_output}
 use Rattle.spec_desktop.specs.Stacked.{all_windows}
 use Rattle.spec_desktop.specs.Through.{ServesThrough}
@@ -196,14 +195,14 @@ module _ {A : Type 0} (laws : MessageLaws) (c : ℕ) (others : ℕ → ById ℕ)
 
     -- ---- any desktop to which it leads
 
-    module _ (e : Desktop) (s : Resident) (serves : Serves nothing_left_out c d e) (there : client_at c e ≡ Some s) (seated : IsSeat mid.client (owned_view mid) s) (after : HasTrees e)
+    module _ (e : Desktop) (s : Resident) (serves : Serves c d e) (there : client_at c e ≡ Some s) (seated : IsSeat mid.client (owned_view mid) s) (after : HasTrees e)
         (shown : ShownStand e) where
       status-e : s.peer.status ≡ None
       status-e = sym seated.peer.status ∙ lives
 
-      message : MessageChanges nothing_left_out c r d e
+      message : MessageChanges c r d e
       message =
-          messages-change nothing_left_out c r d e ordered.in_order before.mapped before.based.there serves (ap (λ (o : Option Resident). status_of o) there ∙ status-e)
+          messages-change c r d e ordered.in_order before.mapped before.based.there serves (ap (λ (o : Option Resident). status_of o) there ∙ status-e)
 
       stacks : StacksFor old r message.demand stacking
       stacks = stacks-of (split_of r.peer.rest) c r d old mid stacking message.demand answers message.demanded
@@ -319,15 +318,15 @@ module _ {A : Type 0} (laws : MessageLaws) (c : ℕ) (others : ℕ → ById ℕ)
 
     -- ---- what the clauses say
 
-    pub live-least : (e : Desktop) (q : Resident) → Serves nothing_left_out c d e → IsSeated c others base mid (pile_of new) e q → MarksAtLeast d e was.damage new.damage
+    pub live-least : (e : Desktop) (q : Resident) → Serves c d e → IsSeated c others base mid (pile_of new) e q → MarksAtLeast d e was.damage new.damage
     live-least e q serves after =
         lives-least e q serves after.based.there after.seat (trees-after (ways laws) c others base d r old mid was new before ordered alive lives e serves) after.mapped
 
-    pub live-most : (e : Desktop) (q : Resident) → Serves nothing_left_out c d e → IsSeated c others base mid (pile_of new) e q → MarksMost d e was.damage new.damage
+    pub live-most : (e : Desktop) (q : Resident) → Serves c d e → IsSeated c others base mid (pile_of new) e q → MarksMost d e was.damage new.damage
     live-most e q serves after =
         lives-most e q serves after.based.there after.seat (trees-after (ways laws) c others base d r old mid was new before ordered alive lives e serves) after.mapped
 
-    led : Serves nothing_left_out c d m.after
+    led : Serves c d m.after
     led = led-serves (ways laws) c others base d r old mid was new before ordered alive lives m
 
     trees-m : HasTrees m.after
@@ -339,10 +338,10 @@ module _ {A : Type 0} (laws : MessageLaws) (c : ℕ) (others : ℕ → ById ℕ)
     led-windows : AreStacked (with_numbers c (numbers mid) others) new.stacked.windows (all_windows m.after)
     led-windows = lives-windows m.after m.resident led m.sits.based.there m.sits.seat trees-m shown-m
 
-    pub live-seated : (e : Desktop) × (q : Resident) × Serves nothing_left_out c d e × IsSeated c others base mid (pile_of new) e q
+    pub live-seated : (e : Desktop) × (q : Resident) × Serves c d e × IsSeated c others base mid (pile_of new) e q
     live-seated = led-seated (ways laws) c others base d r old mid was new before ordered alive lives m led-windows
 
-    pub live-through : (e : Desktop) × (q : Resident) × (path : List Desktop) × ServesThrough nothing_left_out c d path e × IsSeated c others base mid (pile_of new) e q
+    pub live-through : (e : Desktop) × (q : Resident) × (path : List Desktop) × ServesThrough c d path e × IsSeated c others base mid (pile_of new) e q
         × MarksThrough d path was.damage new.damage
     live-through =
         led-through (ways laws) c others base d r old mid was new before ordered alive lives m led-windows

@@ -9,7 +9,6 @@ use Rattle.law_desktop.specs.Subsurfaces.{AreOfSurfaces, child_of}
 use Rattle.spec_desktop.specs.Objects.{ById}
 use Rattle.spec_desktop.specs.Demand.{CommitTree}
 use Rattle.spec_desktop.specs.Desktop.{Resident, Subsurface}
-use Rattle.spec_desktop.specs.LeftOut.{nothing_left_out}
 use Rattle.wl_proto.specs.declared.wl_subsurface.WlSubsurfaceRequest.TheVariants as subsurface
 use Rattle.wl_proto.specs.declared.wl_surface.WlSurfaceRequest.TheVariants as surface
 use Rattle.wl_proto.specs.declared.xdg_popup.XdgPopupRequest.TheVariants as popup
@@ -74,7 +73,7 @@ module _ {A : Type 0} (v : Kept A) (numbers : ById ℕ) (subsurfaces : List Subs
 
 -- Where it changes nothing of what several surfaces show, it is none.
 pub untouched-never : {A : Type 0} (v : Kept A) (r : Resident) (a : Asked) (touched : Option ℕ) → IsResident v r → OwnsOrdered r → IsAsked v.client a → IsTouchedBy v a touched
-    → ((touch : Touch) → IsTouchOfAsked a v touch → ⊥) → (id : ℕ) → IsDemanded nothing_left_out (split_of r.peer.rest) r (CommitTree id) → ⊥
+    → ((touch : Touch) → IsTouchOfAsked a v touch → ⊥) → (id : ℕ) → IsDemanded (split_of r.peer.rest) r (CommitTree id) → ⊥
 untouched-never v r a touched is ordered asks by none id demanded =
     at touched (touch-named v r a (CommitTree id) touched is ordered asks demanded by) (touch-is v r a (CommitTree id) touched is ordered asks demanded by)
   where

@@ -11,7 +11,6 @@ use Rattle.wl_scene.specs.Kept.{Stack}
 use Rattle.spec_desktop.specs.Windows.{Window}
 use Rattle.spec_desktop.specs.Desktop.{Desktop, Resident, status_in, status_of}
 use Rattle.spec_desktop.specs.Happens.{Serves}
-use Rattle.spec_desktop.specs.LeftOut.{nothing_left_out}
 use Rattle.spec_desktop.specs.Stacked.{all_windows}
 use Rattle.spec_desktop.specs.Through.{ServesThrough}
 use Rattle.law_desktop.proofs.Runs.Through.{messages_lead_through}
@@ -52,13 +51,13 @@ pub record Taken {A : Type 0} (c : ℕ) (others : ℕ → ById ℕ) (base d : De
   pub after : Desktop
   pub resident : Resident
   pub was_done : Bool
-  pub takes : TakesAs nothing_left_out was_done (split_of r.peer.rest) c r d after
+  pub takes : TakesAs was_done (split_of r.peer.rest) c r d after
   pub sits : Sits c others base left new.scene after resident
 
 -- What is told of windows then: none where it wasn't done; else those that the toplevel has on the desktop on which the client lived still.
 pub record TellsEnd (c : ℕ) (r : Resident) (d e : Desktop) (f : ℕ → ℕ) (is : List TreeWindow) (was_done : Bool) : Type 0 where
   pub undone : was_done ≡ false → is ≡ []
-  pub turned : was_done ≡ true → (path : List Desktop) (s : Struck nothing_left_out c r d path e) → IsTurned c d f is s.own
+  pub turned : was_done ≡ true → (path : List Desktop) (s : Struck c r d path e) → IsTurned c d f is s.own
 
 module _ {A : Type 0} (laws : WayLaws) (c : ℕ) (others : ℕ → ById ℕ) (base d : Desktop) (r : Resident) (old mid left : Kept A) (was new : Screen A)
     (before : IsSeated c others base old (pile_of was) d r)
@@ -79,16 +78,16 @@ module _ {A : Type 0} (laws : WayLaws) (c : ℕ) (others : ℕ → ById ℕ) (ba
   over-at : (e : Desktop) (q : Resident) → IsSeated c others base left (pile_of new) e q → is_some (status_in c e) ≡ true
   over-at e q after = over-by e q (record { based = after.based; seat = after.seat; scene = λ known. after.scene })
 
-  trees-at : (e : Desktop) → Serves nothing_left_out c d e → HasTrees e
+  trees-at : (e : Desktop) → Serves c d e → HasTrees e
   trees-at e serves =
-      in-order-has-trees e (messages_keep_in_order nothing_left_out c d e ordered.in_order serves) (messages_keep_shown nothing_left_out c d e ordered.in_order before.mapped serves)
+      in-order-has-trees e (messages_keep_in_order c d e ordered.in_order serves) (messages_keep_shown c d e ordered.in_order before.mapped serves)
 
-  gone-at : (e : Desktop) → Serves nothing_left_out c d e → is_some (status_in c e) ≡ true → IsGone c d e
-  gone-at e serves over = laws.ended nothing_left_out c r d e ordered.in_order before.based.there serves over
+  gone-at : (e : Desktop) → Serves c d e → is_some (status_in c e) ≡ true → IsGone c d e
+  gone-at e serves over = laws.ended c r d e ordered.in_order before.based.there serves over
 
   -- ---- any desktop to which it leads
 
-  pub ended-least : (e : Desktop) (q : Resident) → Serves nothing_left_out c d e → IsSeated c others base left (pile_of new) e q → MarksAtLeast d e was.damage new.damage
+  pub ended-least : (e : Desktop) (q : Resident) → Serves c d e → IsSeated c others base left (pile_of new) e q → MarksAtLeast d e was.damage new.damage
   ended-least e q serves after =
       gone-least laws c (with_numbers c (numbers old) others) was.stacked.windows d e before.windows trees (trees-at e serves) p.is was.damage new.damage p.points
       (gone-at e serves (over-at e q after))
@@ -102,11 +101,11 @@ module _ {A : Type 0} (laws : WayLaws) (c : ℕ) (others : ℕ → ById ℕ) (ba
     abbrev e : Desktop
     e = m.after
 
-    lead : (path : List Desktop) × ServesThrough nothing_left_out c d path e × RouteBy nothing_left_out m.was_done c r d path e
-    lead = laws.lead nothing_left_out m.was_done c r d e ordered.in_order before.mapped before.based.there alive m.takes
+    lead : (path : List Desktop) × ServesThrough c d path e × RouteBy m.was_done c r d path e
+    lead = laws.lead m.was_done c r d e ordered.in_order before.mapped before.based.there alive m.takes
 
-    serves : Serves nothing_left_out c d e
-    serves = (messages_lead_through nothing_left_out c d e).0 lead.0 lead.1
+    serves : Serves c d e
+    serves = (messages_lead_through c d e).0 lead.0 lead.1
 
     over : is_some (status_in c e) ≡ true
     over = over-by e m.resident m.sits
@@ -121,17 +120,17 @@ module _ {A : Type 0} (laws : WayLaws) (c : ℕ) (others : ℕ → ById ℕ) (ba
 
     seated : IsSeated c others base left (pile_of new) e m.resident
     seated =
-        sits-seated c others base left new.scene new.stacked.windows e m.resident m.sits (messages_keep_shown nothing_left_out c d e ordered.in_order before.mapped serves) windows
+        sits-seated c others base left new.scene new.stacked.windows e m.resident m.sits (messages_keep_shown c d e ordered.in_order before.mapped serves) windows
 
     -- What is kept stands for a desktop to which the message leads.
-    pub ended-seated : (e : Desktop) × (q : Resident) × Serves nothing_left_out c d e × IsSeated c others base left (pile_of new) e q
+    pub ended-seated : (e : Desktop) × (q : Resident) × Serves c d e × IsSeated c others base left (pile_of new) e q
     ended-seated = (e, m.resident, serves, seated)
 
     marks : (f : ℕ → ℕ) → TellsEnd c r d e f p.is m.was_done → was.damage.width ≡ d.output.width → was.damage.height ≡ d.output.height → MarksThrough d lead.0 was.damage new.damage
     marks f tells width height = at m.was_done tells.undone tells.turned lead.2
       where
-        at : (b : Bool) → (b ≡ false → p.is ≡ []) → (b ≡ true → (path : List Desktop) (s : Struck nothing_left_out c r d path e) → IsTurned c d f p.is s.own)
-            → RouteBy nothing_left_out b c r d lead.0 e → MarksThrough d lead.0 was.damage new.damage
+        at : (b : Bool) → (b ≡ false → p.is ≡ []) → (b ≡ true → (path : List Desktop) (s : Struck c r d path e) → IsTurned c d f p.is s.own)
+            → RouteBy b c r d lead.0 e → MarksThrough d lead.0 was.damage new.damage
         at false undone turned way =
             twice-through laws c (with_numbers c (numbers old) others) was.stacked.windows d e before.windows trees (trees-at e serves) p.is was.damage new.damage p.points
             lead.0 way.0 (gone-at e serves over) (undone refl) (inside-so d was.damage width height)
@@ -142,6 +141,6 @@ module _ {A : Type 0} (laws : WayLaws) (c : ℕ) (others : ℕ → ById ℕ) (ba
 
     -- And along the way what is marked is what has to be and may be.
     pub ended-through : (f : ℕ → ℕ) → TellsEnd c r d e f p.is m.was_done → was.damage.width ≡ d.output.width → was.damage.height ≡ d.output.height
-        → (e : Desktop) × (q : Resident) × (path : List Desktop) × ServesThrough nothing_left_out c d path e × IsSeated c others base left (pile_of new) e q
+        → (e : Desktop) × (q : Resident) × (path : List Desktop) × ServesThrough c d path e × IsSeated c others base left (pile_of new) e q
         × MarksThrough d path was.damage new.damage
     ended-through f tells width height = (e, m.resident, lead.0, lead.1, seated, marks f tells width height)

@@ -8,7 +8,6 @@ use Rattle.wl_paint.specs.Damage.{Damaged, has}
 use Rattle.spec_desktop.specs.Objects.{ById}
 use Rattle.spec_desktop.specs.Windows.{Window, contains}
 use Rattle.spec_desktop.specs.Desktop.{Desktop, Resident}
-use Rattle.spec_desktop.specs.LeftOut.{nothing_left_out}
 use Rattle.spec_desktop.specs.Marks.{in_output}
 use Rattle.spec_desktop.specs.Moments.{marks_at_least, marks_at_least_through, marks_at_most_through}
 use Rattle.spec_desktop.specs.Stacked.{all_windows}
@@ -132,7 +131,7 @@ module _ (laws : WayLaws) (c : ℕ) (numbers : ℕ → ById ℕ) (kept : List St
 
   -- ---- by a desktop on which the client lived
 
-  pub struck-through : (r : Resident) (f : ℕ → ℕ) (path : List Desktop) (s : Struck nothing_left_out c r d path e) → IsTurned c d f is s.own → Inside → MarksThrough d path d0 d2
+  pub struck-through : (r : Resident) (f : ℕ → ℕ) (path : List Desktop) (s : Struck c r d path e) → IsTurned c d f is s.own → Inside → MarksThrough d path d0 d2
   struck-through r f path s (inl h) = through path least most
     where
       same : (x y : ℤ) → has_window_at c x y s.own ≡ has_window_at c x y d
@@ -143,17 +142,17 @@ module _ (laws : WayLaws) (c : ℕ) (numbers : ℕ → ById ℕ) (kept : List St
       had x y (inr there) = or_left (has_window_at c x y d) _ (sym (same x y) ∙ there)
 
       least : (x y : ℤ) → marks_at_least_through all_windows d path x y ≡ true → here x y ≡ true
-      least x y marked = had x y ((laws.struck nothing_left_out c r d path e s after x y).0 marked)
+      least x y marked = had x y ((laws.struck c r d path e s after x y).0 marked)
 
       most : (x y : ℤ) → in_output d.output.width d.output.height x y ≡ true → here x y ≡ true → marks_at_most_through all_windows None d path x y ≡ true
-      most x y inside there = (laws.struck nothing_left_out c r d path e s after x y).1 inside (inr (same x y ∙ here-had h.1 x y there))
+      most x y inside there = (laws.struck c r d path e s after x y).1 inside (inr (same x y ∙ here-had h.1 x y there))
   struck-through r f path s (inr h) = through path least most
     where
       same : (x y : ℤ) → here x y ≡ (has_window_at c x y d || is_in_any x y h.1.is)
       same x y = ap (λ b. has_window_at c x y d || b) (ap (list_any (window_has x y)) h.2 ∙ told-has f h.1.is x y)
 
       least : (x y : ℤ) → marks_at_least_through all_windows d path x y ≡ true → here x y ≡ true
-      least x y marked = same x y ∙ run-before laws.between c h.0 d s.own h.1 x y ((laws.struck nothing_left_out c r d path e s after x y).0 marked)
+      least x y marked = same x y ∙ run-before laws.between c h.0 d s.own h.1 x y ((laws.struck c r d path e s after x y).0 marked)
 
       most : (x y : ℤ) → in_output d.output.width d.output.height x y ≡ true → here x y ≡ true → marks_at_most_through all_windows None d path x y ≡ true
-      most x y inside there = (laws.struck nothing_left_out c r d path e s after x y).1 inside (run-after laws.between c h.0 d s.own h.1 x y inside (sym (same x y) ∙ there))
+      most x y inside there = (laws.struck c r d path e s after x y).1 inside (run-after laws.between c h.0 d s.own h.1 x y inside (sym (same x y) ∙ there))

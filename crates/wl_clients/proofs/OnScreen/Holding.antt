@@ -17,7 +17,6 @@ use Rattle.spec_desktop.specs.Peer.{Peer, counted, with_rest}
 use Rattle.spec_desktop.specs.Changing.{changed_for}
 use Rattle.spec_desktop.specs.Demand.{Demand}
 use Rattle.spec_desktop.specs.Desktop.{Desktop, Resident, owned_in, unpointed}
-use Rattle.spec_desktop.specs.LeftOut.{nothing_left_out}
 use Rattle.spec_desktop.specs.Step.{with_peer}
 use Rattle.wl_requests.specs.declared.residents.Resident.{Resident as Kept}
 use Rattle.wl_requests.specs.Holding.{HoldsBy, HoldsFirst, HoldsSo}
@@ -77,7 +76,7 @@ unpointed-same d is = ap (λ (p : Pointer). record d { pointer = p }) (sym is)
 
 -- What is kept stands, by the numbers from before, for what is demanded of the client.
 pub holds-then : {A : Type 0} (laws : OrderLaws) (split : Split) (c : ℕ) (r : Resident) (d : Desktop) (old mid : Kept A) (demand : Demand) (p : Peer) → OwnsOrdered r
-    → IsDemanded nothing_left_out split r demand → IsTakenBy split r p → d.pointer ≡ first_pointer → HoldsFirst split c r d old mid
+    → IsDemanded split r demand → IsTakenBy split r p → d.pointer ≡ first_pointer → HoldsFirst split c r d old mid
     → HoldsAs (named_by old) mid (changed_for c demand (with_peer p r) d).owned
 holds-then {A} laws (Whole object opcode size) c r d old mid demand p owns told taken pointer holds =
     let by : HoldsBy old mid (changed_for c demand (with_peer (counted (with_rest (drop size r.peer.rest) r.peer)) r) (unpointed d)).owned =

@@ -9,7 +9,6 @@ use Rattle.spec_desktop.specs.declared.cause.Cause.{Cause}
 use Rattle.spec_desktop.specs.Objects.{ById}
 use Rattle.spec_desktop.specs.Desktop.{Desktop, Resident, status_in, status_of}
 use Rattle.spec_desktop.specs.Happens.{Serves}
-use Rattle.spec_desktop.specs.LeftOut.{nothing_left_out}
 use Rattle.spec_desktop.specs.Moments.{marks_at_least_through, marks_at_most, marks_at_most_through}
 use Rattle.spec_desktop.specs.Stacked.{all_windows}
 use Rattle.spec_desktop.specs.Through.{ServesThrough}
@@ -51,11 +50,11 @@ twice-through twice d e path d0 d2 is trees least most x y wide high = (
 
 module _ {A : Type 0} (laws : WayLaws) (c : ℕ) (others : ℕ → ById ℕ) (base d : Desktop) (r : Resident) (old mid : Kept A) (was new : Screen A) (before : IsSeated c others base old (pile_of was) d r)
     (ordered : Ordered d) (alive : r.peer.status ≡ None) (lives : mid.client.ended ≡ None) where
-  pub shown-after : (e : Desktop) → Serves nothing_left_out c d e → ShownStand e
-  shown-after e serves = messages_keep_shown nothing_left_out c d e ordered.in_order before.mapped serves
+  pub shown-after : (e : Desktop) → Serves c d e → ShownStand e
+  shown-after e serves = messages_keep_shown c d e ordered.in_order before.mapped serves
 
-  pub trees-after : (e : Desktop) → Serves nothing_left_out c d e → HasTrees e
-  trees-after e serves = in-order-has-trees e (messages_keep_in_order nothing_left_out c d e ordered.in_order serves) (shown-after e serves)
+  pub trees-after : (e : Desktop) → Serves c d e → HasTrees e
+  trees-after e serves = in-order-has-trees e (messages_keep_in_order c d e ordered.in_order serves) (shown-after e serves)
 
   -- it lives on each desktop on which it is this one
   pub status-after : (e : Desktop) (q : Resident) → IsSeated c others base mid (pile_of new) e q → status_in c e ≡ None
@@ -67,11 +66,11 @@ module _ {A : Type 0} (laws : WayLaws) (c : ℕ) (others : ℕ → ById ℕ) (ba
     abbrev pub e : Desktop
     e = m.after
 
-    lead : (path : List Desktop) × ServesThrough nothing_left_out c d path e × RouteBy nothing_left_out m.was_done c r d path e
-    lead = laws.lead nothing_left_out m.was_done c r d e ordered.in_order before.mapped before.based.there alive m.takes
+    lead : (path : List Desktop) × ServesThrough c d path e × RouteBy m.was_done c r d path e
+    lead = laws.lead m.was_done c r d e ordered.in_order before.mapped before.based.there alive m.takes
 
-    pub led-serves : Serves nothing_left_out c d e
-    led-serves = (messages_lead_through nothing_left_out c d e).0 lead.0 lead.1
+    pub led-serves : Serves c d e
+    led-serves = (messages_lead_through c d e).0 lead.0 lead.1
 
     pub led-status : status_in c e ≡ None
     led-status = ap (λ (o : Option Resident). status_of o) m.sits.based.there ∙ (sym m.sits.seat.peer.status ∙ lives)
@@ -82,7 +81,7 @@ module _ {A : Type 0} (laws : WayLaws) (c : ℕ) (others : ℕ → ById ℕ) (ba
         lost : is_some (status_in c e) ≡ true → ⊥
         lost over = differ (sym (ap (λ (o : Option Cause). is_some o) led-status) ∙ over)
 
-        at : (b : Bool) → RouteBy nothing_left_out b c r d lead.0 e → lead.0 ≡ e ∷ e ∷ []
+        at : (b : Bool) → RouteBy b c r d lead.0 e → lead.0 ≡ e ∷ e ∷ []
         at false way = absurd (lost way.1)
         at true (inl way) = way.0
         at true (inr s) = absurd (lost s.over)
@@ -93,12 +92,12 @@ module _ {A : Type 0} (laws : WayLaws) (c : ℕ) (others : ℕ → ById ℕ) (ba
       seated = sits-seated c others base mid new.scene new.stacked.windows e m.resident m.sits (shown-after e led-serves) windows
 
       -- What is kept stands for a desktop to which the message leads.
-      pub led-seated : (e : Desktop) × (q : Resident) × Serves nothing_left_out c d e × IsSeated c others base mid (pile_of new) e q
+      pub led-seated : (e : Desktop) × (q : Resident) × Serves c d e × IsSeated c others base mid (pile_of new) e q
       led-seated = (e, m.resident, led-serves, seated)
 
       -- And along the way what is marked is what has to be and may be.
       pub led-through : MarksAtLeast d e was.damage new.damage → MarksMost d e was.damage new.damage
-          → (e : Desktop) × (q : Resident) × (path : List Desktop) × ServesThrough nothing_left_out c d path e × IsSeated c others base mid (pile_of new) e q
+          → (e : Desktop) × (q : Resident) × (path : List Desktop) × ServesThrough c d path e × IsSeated c others base mid (pile_of new) e q
           × MarksThrough d path was.damage new.damage
       led-through least most =
           (e, m.resident, lead.0, lead.1, seated, twice-through laws.twice d e lead.0 was.damage new.damage at-once (trees-after e led-serves) least most)

@@ -19,7 +19,6 @@ use Rattle.wl_surface.specs.declared.applied.Applied.{Applied}
 use Rattle.spec_desktop.specs.Demand.{Demand, CommitTree, EndToplevel}
 use Rattle.spec_desktop.specs.Demanding.{effect_of_commit, judge_all}
 use Rattle.spec_desktop.specs.Desktop.{Desktop, Resident}
-use Rattle.spec_desktop.specs.LeftOut.{nothing_left_out}
 use Rattle.law_desktop.specs.Ordered.{OwnsOrdered}
 use Rattle.law_desktop.specs.Done.{touched_by}
 use Rattle.law_desktop.specs.Messages.{IsDemanded}
@@ -77,12 +76,12 @@ top-commits old r (EndToplevel id xdg surface) n h = absurd (out-top h.0 n h.2)
 top-commits old r demand n h = absurd (cc)
 
 top-demanded : {A : Type 0} (split : Split) (c : ℕ) (r : Resident) (d : Desktop) (old mid : Kept A) (n : ℕ) → TakesSo split c r d old mid (on.ToTop n) → mid.client.ended ≡ None
-    → (id : ℕ) × IsDemanded nothing_left_out split r (CommitTree id) × (effect_of_commit r id ≡ Maps)
-top-demanded {A} (Whole object opcode size) c r d old mid n h alive = at (judge_all nothing_left_out r object opcode (take (size - 8) (drop 8 r.peer.rest))) refl h.0 h.1
+    → (id : ℕ) × IsDemanded split r (CommitTree id) × (effect_of_commit r id ≡ Maps)
+top-demanded {A} (Whole object opcode size) c r d old mid n h alive = at (judge_all r object opcode (take (size - 8) (drop 8 r.peer.rest))) refl h.0 h.1
   where
-    at : (judged : Result Demand Refusal) → judge_all nothing_left_out r object opcode (take (size - 8) (drop 8 r.peer.rest)) ≡ judged
+    at : (judged : Result Demand Refusal) → judge_all r object opcode (take (size - 8) (drop 8 r.peer.rest)) ≡ judged
         → AnswersSo judged c (with_peer (with_rest (drop size r.peer.rest) r.peer) r) d old mid
-        → StacksSo old r judged (on.ToTop n) → (id : ℕ) × IsDemanded nothing_left_out (Whole object opcode size) r (CommitTree id) × (effect_of_commit r id ≡ Maps)
+        → StacksSo old r judged (on.ToTop n) → (id : ℕ) × IsDemanded (Whole object opcode size) r (CommitTree id) × (effect_of_commit r id ≡ Maps)
     at (Ok demand) is told stacks =
         let top = top-commits old r demand n stacks in
         (top.0, is ∙ ap (λ (x : Demand). let j : Result Demand Refusal = Ok x in j) top.1, top.2)
@@ -98,10 +97,10 @@ untouched-stays old r (EndToplevel id xdg surface) stacking h none = absurd (non
 untouched-stays old r demand stacking h none = h
 
 demanded-stays : {A : Type 0} (split : Split) (c : ℕ) (r : Resident) (d : Desktop) (old mid : Kept A) (stacking : Stacking) → TakesSo split c r d old mid stacking → mid.client.ended ≡ None
-    → ((demand : Demand) → IsDemanded nothing_left_out split r demand → touched_by demand r ≡ None) → stacking ≡ on.Stays
-demanded-stays (Whole object opcode size) c r d old mid stacking h alive none = at (judge_all nothing_left_out r object opcode (take (size - 8) (drop 8 r.peer.rest))) refl h.0 h.1
+    → ((demand : Demand) → IsDemanded split r demand → touched_by demand r ≡ None) → stacking ≡ on.Stays
+demanded-stays (Whole object opcode size) c r d old mid stacking h alive none = at (judge_all r object opcode (take (size - 8) (drop 8 r.peer.rest))) refl h.0 h.1
   where
-    at : (judged : Result Demand Refusal) → judge_all nothing_left_out r object opcode (take (size - 8) (drop 8 r.peer.rest)) ≡ judged
+    at : (judged : Result Demand Refusal) → judge_all r object opcode (take (size - 8) (drop 8 r.peer.rest)) ≡ judged
         → AnswersSo judged c (with_peer (with_rest (drop size r.peer.rest) r.peer) r) d old mid → StacksSo old r judged stacking → stacking ≡ on.Stays
     at (Ok demand) is told stacks = untouched-stays old r demand stacking stacks (none demand is)
     at (Err refusal) is told stacks = absurd (true≢false (ended-by-peer mid told.0 told.2.peer (over-ended told.0 (errs-over refusal (with_rest (drop size r.peer.rest) r.peer) told.0 told.1)) alive))
@@ -122,7 +121,7 @@ module _ {A : Type 0} (c : ℕ) (r : Resident) (d : Desktop) (old mid : Kept A) 
 
   -- A toplevel that was mapped was by such a request.
   pub top-applied : ((touch : Touch) × IsTouchOfAsked asked old touch) ⊎ ((touch : Touch) → IsTouchOfAsked asked old touch → ⊥)
-      → (((touch : Touch) → IsTouchOfAsked asked old touch → ⊥) → (id : ℕ) → IsDemanded nothing_left_out (split_of r.peer.rest) r (CommitTree id) → effect_of_commit r id ≡ Maps → ⊥)
+      → (((touch : Touch) → IsTouchOfAsked asked old touch → ⊥) → (id : ℕ) → IsDemanded (split_of r.peer.rest) r (CommitTree id) → effect_of_commit r id ≡ Maps → ⊥)
       → (stacking : Stacking) → TakesGiven asked placing c r d old mid stacking → (n : ℕ) → stacking ≡ on.ToTop n → is_some applied ≡ true
   top-applied touches never stacking takes n is = by touches
     where
@@ -137,5 +136,5 @@ module _ {A : Type 0} (c : ℕ) (r : Resident) (d : Desktop) (old mid : Kept A) 
 
   -- What touches no tree leaves the stack as it is.
   pub stays-apart : (stacking : Stacking) → TakesGiven asked placing c r d old mid stacking
-      → ((demand : Demand) → IsDemanded nothing_left_out (split_of r.peer.rest) r demand → touched_by demand r ≡ None) → stacking ≡ on.Stays
+      → ((demand : Demand) → IsDemanded (split_of r.peer.rest) r demand → touched_by demand r ≡ None) → stacking ≡ on.Stays
   stays-apart stacking takes untouched = demanded-stays (split_of r.peer.rest) c r d old mid stacking (takes resident owns placed) alive untouched

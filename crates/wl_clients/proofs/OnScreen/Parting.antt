@@ -12,7 +12,6 @@ use Rattle.spec_desktop.specs.declared.cause.Cause.{Cause}
 use Rattle.spec_desktop.specs.Objects.{ById}
 use Rattle.spec_desktop.specs.Desktop.{Desktop, Resident, owned_in, status_in}
 use Rattle.spec_desktop.specs.Happens.{Serves}
-use Rattle.spec_desktop.specs.LeftOut.{nothing_left_out}
 use Rattle.spec_desktop.specs.Through.{ServesThrough}
 use Rattle.wl_scene.specs.Repaint.{window_has}
 use Rattle.wl_requests.specs.declared.messages.Asked.{Asked}
@@ -159,7 +158,7 @@ module _ {A : Type 0} (laws : MessageLaws) (c : ℕ) (others : ℕ → ById ℕ)
   touches-it = touches laws c others base d r old mid was ready before ordered asked placing surface root found stacking applied a width height
 
   -- by a desktop on which the client lived
-  module _ (e : Desktop) (path : List Desktop) (s : Struck nothing_left_out c r d path e) (by_peer : IsTakenBy (split_of r.peer.rest) r s.before)
+  module _ (e : Desktop) (path : List Desktop) (s : Struck c r d path e) (by_peer : IsTakenBy (split_of r.peer.rest) r s.before)
       (some_applied : (touch : Touch) → IsTouchOfAsked asked old touch → is_some applied ≡ true) where
     stacks : StacksFor old r s.demand stacking
     stacks =
@@ -188,10 +187,10 @@ module _ {A : Type 0} (laws : MessageLaws) (c : ℕ) (others : ℕ → ById ℕ)
   -- ---- what the clauses say
 
   -- the peer of which the message demands something, on a way on which the client is struck
-  knows : (e : Desktop) (path : List Desktop) (s : Struck nothing_left_out c r d path e) → IsTakenBy (split_of r.peer.rest) r s.before
+  knows : (e : Desktop) (path : List Desktop) (s : Struck c r d path e) → IsTakenBy (split_of r.peer.rest) r s.before
   knows e path s = at (split_of r.peer.rest) refl s.demanded
     where
-      at : (split : Split) → split_of r.peer.rest ≡ split → IsDemanded nothing_left_out split r s.demand → IsTakenBy split r s.before
+      at : (split : Split) → split_of r.peer.rest ≡ split → IsDemanded split r s.demand → IsTakenBy split r s.before
       at (Whole object opcode size) is told = s.taken object opcode size is
       at Bad is told = told
       at More is told = told
@@ -209,16 +208,16 @@ module _ {A : Type 0} (laws : MessageLaws) (c : ℕ) (others : ℕ → ById ℕ)
   its-alive : r.peer.status ≡ None
   its-alive = alive laws c others base d r old mid was ready before ordered asked placing surface root found stacking applied a width height
 
-  pub over-least : (e : Desktop) (q : Resident) → Serves nothing_left_out c d e → IsSeated c others base left (pile_of new) e q → MarksAtLeast d e was.damage new.damage
+  pub over-least : (e : Desktop) (q : Resident) → Serves c d e → IsSeated c others base left (pile_of new) e q → MarksAtLeast d e was.damage new.damage
   over-least = ended-least (ways laws) c others base d r old mid left was new before ordered its-alive cause over ending
 
   pub over-on : (e : Desktop) (q : Resident) → IsSeated c others base left (pile_of new) e q → status_in c e ≡ None → ⊥
   over-on = ended-on (ways laws) c others base d r old mid left was new before ordered its-alive cause over ending
 
-  pub over-seated : (e : Desktop) × (q : Resident) × Serves nothing_left_out c d e × IsSeated c others base left (pile_of new) e q
+  pub over-seated : (e : Desktop) × (q : Resident) × Serves c d e × IsSeated c others base left (pile_of new) e q
   over-seated = ended-seated (ways laws) c others base d r old mid left was new before ordered its-alive cause over ending m.0
 
-  pub over-through : (e : Desktop) × (q : Resident) × (path : List Desktop) × ServesThrough nothing_left_out c d path e × IsSeated c others base left (pile_of new) e q
+  pub over-through : (e : Desktop) × (q : Resident) × (path : List Desktop) × ServesThrough c d path e × IsSeated c others base left (pile_of new) e q
       × MarksThrough d path was.damage new.damage
   unfolding ending
   over-through =

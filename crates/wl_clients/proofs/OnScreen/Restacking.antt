@@ -132,10 +132,7 @@ module _ {A : Type 0} (c : ℕ) (old : Kept A) (r : Resident) (p : Peer) (owns :
 
       still : (effect : Effect) → (stacked_by effect false c id d).standing ≡ d.standing
       still Stays = refl
-      still Unconfigured = refl
-      still Configures = refl
-      still Maps = refl
-      still Unmaps = refl
+      still effect = refl
 
       at : (top : Bool) → is_toplevel (xdg_of id r.owned.shell) ≡ top → (effect : Effect) → effect_of_commit r id ≡ effect → StacksIf top old id effect stacking → MovesBy (CommitTree id) id
       at false t effect e h = inl (h, comes false effect t e ∙ still effect)

@@ -18,7 +18,6 @@ use Rattle.wl_paint.specs.Damage.{Damaged, has}
 use Rattle.spec_desktop.specs.Changing.{changed_for}
 use Rattle.spec_desktop.specs.Demand.{Demand}
 use Rattle.spec_desktop.specs.Desktop.{Desktop, Resident, owned_in}
-use Rattle.spec_desktop.specs.LeftOut.{nothing_left_out}
 use Rattle.spec_desktop.specs.Marks.{in_output}
 use Rattle.spec_desktop.specs.Stacked.{all_windows}
 use Rattle.spec_desktop.specs.Step.{with_peer}
@@ -88,14 +87,14 @@ left-of Bad c r d old mid stacking h = left-in (Err (display_error InvalidMethod
 left-of More c r d old mid stacking h = absurd h
 
 pub stacks-of : {A : Type 0} (split : Split) (c : ℕ) (r : Resident) (d : Desktop) (old mid : Kept A) (stacking : Stacking) (demand : Demand) → TakesSo split c r d old mid stacking
-    → IsDemanded nothing_left_out split r demand → StacksFor old r demand stacking
+    → IsDemanded split r demand → StacksFor old r demand stacking
 stacks-of (Whole object opcode size) c r d old mid stacking demand h told = subst (λ (j : Result Demand Refusal). StacksSo old r j stacking) told h.1
 stacks-of Bad c r d old mid stacking demand h told = absurd told
 stacks-of More c r d old mid stacking demand h told = absurd told
 
 -- what is demanded is made as the protocol has it
-pub meant-of : (split : Split) (r : Resident) (demand : Demand) → OwnsOrdered r → IsDemanded nothing_left_out split r demand → IsMeant demand r
-meant-of (Whole object opcode size) r demand owns told = judged-is-meant nothing_left_out r object opcode _ demand owns.order told
+pub meant-of : (split : Split) (r : Resident) (demand : Demand) → OwnsOrdered r → IsDemanded split r demand → IsMeant demand r
+meant-of (Whole object opcode size) r demand owns told = judged-is-meant r object opcode _ demand owns.order told
 meant-of Bad r demand owns told = absurd told
 meant-of More r demand owns told = absurd told
 

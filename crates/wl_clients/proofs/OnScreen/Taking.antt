@@ -17,7 +17,6 @@ use Rattle.spec_desktop.specs.Demand.{Demand, CommitTree, EndToplevel, Move}
 use Rattle.spec_desktop.specs.Demanding.{effect_of_commit, judge_all}
 use Rattle.spec_desktop.specs.Desktop.{Desktop, Resident, become, become_by, client_in, unpointed}
 use Rattle.spec_desktop.specs.Happens.{wants_memory}
-use Rattle.spec_desktop.specs.LeftOut.{nothing_left_out}
 use Rattle.spec_desktop.specs.Replies.{replies}
 use Rattle.spec_desktop.specs.Stacked.{all_windows}
 use Rattle.spec_desktop.specs.Step.{with_peer}
@@ -119,7 +118,7 @@ without-both c surface (s ∷ ss) = at (s.client == c) refl (s.surface == surfac
 
 -- what is told of it
 abbrev pub said_of : ℕ → Demand → Resident → Desktop → List Said
-said_of c demand r d = replies nothing_left_out c demand r (changed_for c demand r d) (all_windows d) d
+said_of c demand r d = replies c demand r (changed_for c demand r d) (all_windows d) d
 
 -- done and told, or without memory
 abbrev Told : Bool → ℕ → Demand → Resident → Desktop → Peer → Type 0
@@ -127,7 +126,7 @@ Told true c demand r d q = Queues (said_of c demand r d) (changed_for c demand r
 Told false c demand r d q = (wants_memory demand ≡ true) × LacksMemory r.peer q
 
 abbrev DoneAs : Bool → Demand → ℕ → Resident → Desktop → Desktop → Type 0
-DoneAs true demand c r d e = DoesAlone nothing_left_out demand c r d e
+DoneAs true demand c r d e = DoesAlone demand c r d e
 DoneAs false demand c r d e = (wants_memory demand ≡ true) × Becomes (LacksMemory r.peer) c r d e
 
 -- the code knows whether it is done, as far as the stack depends on that
@@ -367,7 +366,7 @@ module _ {A : Type 0} (c : ℕ) (others : ℕ → ById ℕ) (base d : Desktop) (
 -- what is kept has it of the desktop where the pointer is put aside
 abbrev MeetsOn : {A : Type 0} → Bool → ℕ → Demand → Resident → Desktop → Desktop → Kept A → Kept A → Type 0
 MeetsOn true c demand r d aside old mid =
-    (q : Peer) × Queues (replies nothing_left_out c demand r (changed_for c demand r aside) (all_windows d) aside) (changed_for c demand r aside).peer q
+    (q : Peer) × Queues (replies c demand r (changed_for c demand r aside) (all_windows d) aside) (changed_for c demand r aside).peer q
     × IsLeft old mid (changed_for c demand r aside) q
 MeetsOn false c demand r d aside old mid = (wants_memory demand ≡ true) × (q : Peer) × LacksMemory r.peer q × IsLeft old mid (changed_for c demand r aside) q
 
@@ -389,7 +388,7 @@ meets-here done c demand r d old mid pointer h =
 
 -- the same for what the message at the front of what came does to the stack
 abbrev StacksIn : {A : Type 0} → Split → Kept A → Resident → Stacking → Type 0
-StacksIn (Whole object opcode size) old r stacking = StacksSo old r (judge_all nothing_left_out r object opcode (take (size - 8) (drop 8 r.peer.rest))) stacking
+StacksIn (Whole object opcode size) old r stacking = StacksSo old r (judge_all r object opcode (take (size - 8) (drop 8 r.peer.rest))) stacking
 StacksIn Bad old r stacking = Unit {0}
 StacksIn More old r stacking = Unit {0}
 
@@ -397,7 +396,7 @@ StacksIn More old r stacking = Unit {0}
 refused-not : (refusal : Refusal) (id : ℕ) → Result.Err refusal ≡ Ok (CommitTree id) → ⊥
 refused-not refusal id e = absurd (cc)
 
-done-so : (done : Bool) (demand : Demand) (c : ℕ) (r : Resident) (d e : Desktop) → DoneAs done demand c (with_peer (counted r.peer) r) d e → AnswersAs nothing_left_out done (Ok demand) c r d e
+done-so : (done : Bool) (demand : Demand) (c : ℕ) (r : Resident) (d e : Desktop) → DoneAs done demand c (with_peer (counted r.peer) r) d e → AnswersAs done (Ok demand) c r d e
 done-so true demand c r d e h = h
 done-so false demand c r d e h = h
 
@@ -423,7 +422,7 @@ module _ {A : Type 0} (c : ℕ) (others : ℕ → ById ℕ) (base d : Desktop) (
   -- what is judged is answered
   answered : (done : Bool) (judged : Result Demand Refusal) (r : Resident) (p : Peer) → p.status ≡ None
       → KeepsAs done judged c (with_peer p r) d old mid → StacksSo old r judged stacking → Knows done (is_some applied) (λ id. (judged ≡ Ok (CommitTree id)) × (effect_of_commit r id ≡ Maps))
-      → (e : Desktop) × (s : Resident) × AnswersAs nothing_left_out done judged c (with_peer p r) d e × Sits c others base new now e s
+      → (e : Desktop) × (s : Resident) × AnswersAs done judged c (with_peer p r) d e × Sits c others base new now e s
   answered done (Ok demand) r p lives answers stacks knows =
       let one_more = with_peer (counted p) r in
       let meets = meets-here done c demand one_more d old mid pointer (kept-meets done demand r p answers) in
@@ -448,11 +447,11 @@ module _ {A : Type 0} (c : ℕ) (others : ℕ → ById ℕ) (base d : Desktop) (
       )
 
   taken : (done : Bool) (split : Split) (r : Resident) → r.peer.status ≡ None → TakesKeptAs done split c r d old mid → StacksIn split old r stacking
-      → Knows done (is_some applied) (λ id. IsDemanded nothing_left_out split r (CommitTree id) × (effect_of_commit r id ≡ Maps))
-      → (e : Desktop) × (s : Resident) × TakesAs nothing_left_out done split c r d e × Sits c others base new now e s
+      → Knows done (is_some applied) (λ id. IsDemanded split r (CommitTree id) × (effect_of_commit r id ≡ Maps))
+      → (e : Desktop) × (s : Resident) × TakesAs done split c r d e × Sits c others base new now e s
   taken done (Whole object opcode size) r lives takes stacks knows =
       let body = take (size - 8) (drop 8 r.peer.rest) in
-      answered done (judge_all nothing_left_out r object opcode body) r (with_rest (drop size r.peer.rest) r.peer) lives takes stacks knows
+      answered done (judge_all r object opcode body) r (with_rest (drop size r.peer.rest) r.peer) lives takes stacks knows
   taken true Bad r lives takes stacks knows = absurd takes
   taken false Bad r lives takes stacks knows =
       answered false (Err (display_error InvalidMethod)) r r.peer lives takes tt (record { undone = knows.undone; mapped = λ id h. absurd (refused-not (display_error InvalidMethod) id h.0) })
@@ -462,7 +461,7 @@ module _ {A : Type 0} (c : ℕ) (others : ℕ → ById ℕ) (base d : Desktop) (
 
 -- what is answered is done, or it isn't
 meets-so : {A : Type 0} (b : Bool) (c : ℕ) (demand : Demand) (r : Resident) (d : Desktop) (old mid : Kept A) → wants_memory demand ≡ b → (q : Peer)
-    → WantsOr b (Queues (replies nothing_left_out c demand r (changed_for c demand r (unpointed d)) (all_windows d) (unpointed d)) (changed_for c demand r (unpointed d)).peer q) r.peer q
+    → WantsOr b (Queues (replies c demand r (changed_for c demand r (unpointed d)) (all_windows d) (unpointed d)) (changed_for c demand r (unpointed d)).peer q) r.peer q
     → IsLeft old mid (changed_for c demand r (unpointed d)) q
     → (done : Bool) × MeetsAs done c demand r d old mid
 meets-so false c demand r d old mid e q h left = (true, (q, h, left))
@@ -476,7 +475,7 @@ answers-so (Err refusal) c r d old mid h = (false, h)
 takes-so : {A : Type 0} (split : Split) (c : ℕ) (r : Resident) (d : Desktop) (old mid : Kept A) (stacking : Stacking) → TakesSo split c r d old mid stacking
     → (done : Bool) × TakesKeptAs done split c r d old mid
 takes-so (Whole object opcode size) c r d old mid stacking h =
-    answers-so (judge_all nothing_left_out r object opcode (take (size - 8) (drop 8 r.peer.rest))) c (with_peer (with_rest (drop size r.peer.rest) r.peer) r) d old mid h.0
+    answers-so (judge_all r object opcode (take (size - 8) (drop 8 r.peer.rest))) c (with_peer (with_rest (drop size r.peer.rest) r.peer) r) d old mid h.0
 takes-so Bad c r d old mid stacking h = (false, h)
 takes-so More c r d old mid stacking h = absurd h
 
@@ -494,7 +493,7 @@ module _ {A : Type 0} (c : ℕ) (others : ℕ → ById ℕ) (base d : Desktop) (
     (takes : TakesGiven asked placing c r d old mid stacking) (decides : (touch : Touch) → IsTouchOfAsked asked old touch → TakesGivenAs (is_some applied) asked placing c r d old mid)
     (nothing : ((touch : Touch) → IsTouchOfAsked asked old touch → ⊥) → applied ≡ None)
     (touches : ((touch : Touch) × IsTouchOfAsked asked old touch) ⊎ ((touch : Touch) → IsTouchOfAsked asked old touch → ⊥))
-    (never : ((touch : Touch) → IsTouchOfAsked asked old touch → ⊥) → (id : ℕ) → IsDemanded nothing_left_out (split_of r.peer.rest) r (CommitTree id) → effect_of_commit r id ≡ Maps → ⊥)
+    (never : ((touch : Touch) → IsTouchOfAsked asked old touch → ⊥) → (id : ℕ) → IsDemanded (split_of r.peer.rest) r (CommitTree id) → effect_of_commit r id ≡ Maps → ⊥)
     (settled : IsSettled mid.client.ended applied c stacking mid left was.scene new.scene) where
   alive : r.peer.status ≡ None
   alive = sym is.seat.peer.status ∙ lives
@@ -509,8 +508,8 @@ module _ {A : Type 0} (c : ℕ) (others : ℕ → ById ℕ) (base d : Desktop) (
   answers = takes resident owns placed
 
   leads : (b : Bool) → TakesKeptAs b (split_of r.peer.rest) c r d old mid
-      → Knows b (is_some applied) (λ id. IsDemanded nothing_left_out (split_of r.peer.rest) r (CommitTree id) × (effect_of_commit r id ≡ Maps))
-      → (e : Desktop) × (s : Resident) × TakesAs nothing_left_out b (split_of r.peer.rest) c r d e × Sits c others base left new.scene e s
+      → Knows b (is_some applied) (λ id. IsDemanded (split_of r.peer.rest) r (CommitTree id) × (effect_of_commit r id ≡ Maps))
+      → (e : Desktop) × (s : Resident) × TakesAs b (split_of r.peer.rest) c r d e × Sits c others base left new.scene e s
   leads b kept knows =
       taken c others base d r stacking applied old mid left was.scene new.scene is.based is.seat.owns.surfaces.once is.scene settled ordered.in_order.pointer b (split_of r.peer.rest) r alive kept
       (stacks-in (split_of r.peer.rest) c r d old mid stacking answers) knows

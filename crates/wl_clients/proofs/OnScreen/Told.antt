@@ -22,7 +22,6 @@ use Rattle.spec_desktop.specs.Changing.{Placing, changed_for, effect_placing, pl
 use Rattle.spec_desktop.specs.Demand.{Demand, EndToplevel}
 use Rattle.spec_desktop.specs.Demanding.{effect_of_commit}
 use Rattle.spec_desktop.specs.Desktop.{Desktop, Resident}
-use Rattle.spec_desktop.specs.LeftOut.{nothing_left_out}
 use Rattle.spec_desktop.specs.Step.{with_peer}
 use Rattle.law_desktop.specs.Ordered.{OwnsOrdered}
 use Rattle.law_desktop.specs.Messages.{IsDemanded}
@@ -105,7 +104,7 @@ module _ {A : Type 0} (v : Kept A) (r : Resident) (p : Peer) (c : ℕ) (d : Desk
 
 -- What is told of a request that may change what several surfaces show is the damage that is applied to the windows of their trees.
 pub touch-told : {A : Type 0} (v mid : Kept A) (r : Resident) (p : Peer) (c : ℕ) (d : Desktop) (a : Asked) (demand : Demand) (touch : Touch) (applied : Applied A) → IsResident v r → OwnsOrdered r
-    → IsAsked v.client a → IsDemanded nothing_left_out (split_of r.peer.rest) r demand → IsTouchOfAsked a v touch → IsTouched touch v.owned.surfaces mid.owned.surfaces (Some applied)
+    → IsAsked v.client a → IsDemanded (split_of r.peer.rest) r demand → IsTouchOfAsked a v touch → IsTouched touch v.owned.surfaces mid.owned.surfaces (Some applied)
     → TellsTrees (named_by v) applied.changes.items r.owned.surfaces (changed_for c demand (with_peer p r) d).owned.surfaces
 touch-told v mid r p c d a demand touch applied is orderly asks demanded it touched =
     told-by v r p c d is orderly applied.changes.items touch demand (touch-demands v r a demand touch is orderly asks demanded it) touched.1

@@ -52,7 +52,6 @@ use Rattle.spec_desktop.specs.Demand.{Demand, Asks, CommitTree, EndPopup, EndSub
 use Rattle.spec_desktop.specs.Demanding.{committed_by, demand_by, demand_of, demands, effect_of_commit, moved_by_pointer, surface_demand, toplevel_asked, toplevel_destroyed, if_whole}
 use Rattle.spec_desktop.specs.Demanding.{xdg_asked}
 use Rattle.spec_desktop.specs.Desktop.{Resident}
-use Rattle.spec_desktop.specs.LeftOut.{nothing_left_out}
 use Rattle.spec_desktop.specs.Step.{with_peer}
 use Rattle.spec_desktop.specs.WlPointer.{is_no_cursor}
 use Rattle.spec_desktop.specs.WlSubsurface.{beside, demand_by_link, has_subsurface, is_no_subsurface, link_of_subsurface, past_limit, placed_beside, refuses}
@@ -134,29 +133,29 @@ if-untouched : (b : Bool) (x y : Result Demand Refusal) → Untouched x → Unto
 if-untouched true x y f g = f
 if-untouched false x y f g = g
 
-compositor-untouched : (r : Resident) (object version : ℕ) (request : WlCompositorRequest) → Untouched (demand_of nothing_left_out r object version (wl_compositor_request request))
+compositor-untouched : (r : Resident) (object version : ℕ) (request : WlCompositorRequest) → Untouched (demand_of r object version (wl_compositor_request request))
 compositor-untouched r object version (compositor.CreateSurface id) = asks-untouched (surface_created r id version)
 compositor-untouched r object version (compositor.CreateRegion id) =
     asks-untouched (owns (action_of (known_of r.peer) object version (ToCompositor (compositor.CreateRegion id))))
 
-seat-untouched : (r : Resident) (object version : ℕ) (request : WlSeatRequest) → Untouched (demand_of nothing_left_out r object version (wl_seat_request request))
+seat-untouched : (r : Resident) (object version : ℕ) (request : WlSeatRequest) → Untouched (demand_of r object version (wl_seat_request request))
 seat-untouched r object version (seat.GetPointer id) = λ q. refl
 seat-untouched r object version (seat.GetKeyboard id) = tt
 seat-untouched r object version (seat.GetTouch id) = tt
 
-pointer-untouched : (r : Resident) (object version : ℕ) (request : WlPointerRequest) → Untouched (demand_of nothing_left_out r object version (wl_pointer_request request))
+pointer-untouched : (r : Resident) (object version : ℕ) (request : WlPointerRequest) → Untouched (demand_of r object version (wl_pointer_request request))
 pointer-untouched r object version (pointer.SetCursor serial surface x y) =
     if-untouched (surface == 0) _ _ (λ q. refl)
     (if-untouched (is_no_cursor (role_of r surface) || is_some (xdg_of surface r.owned.shell)) (refuses object HasAnotherRole) _ tt (λ q. refl))
 
-subcompositor-untouched : (r : Resident) (object version : ℕ) (request : WlSubcompositorRequest) → Untouched (demand_of nothing_left_out r object version (wl_subcompositor_request request))
+subcompositor-untouched : (r : Resident) (object version : ℕ) (request : WlSubcompositorRequest) → Untouched (demand_of r object version (wl_subcompositor_request request))
 subcompositor-untouched r object version subcompositor.Destroy = λ q. refl
 subcompositor-untouched r object version (subcompositor.GetSubsurface id child parent) =
     if-untouched (is_too_deep r.owned.surfaces child parent) past_limit _ tt
     (if-untouched (is_no_subsurface (role_of r child) || (has_subsurface child r || is_some (xdg_of child r.owned.shell))) _ _ tt
     (if-untouched (is_bad_parent r.owned.surfaces child parent) _ _ tt (λ q. refl)))
 
-base-untouched : (r : Resident) (object version : ℕ) (request : XdgWmBaseRequest) → Untouched (demand_of nothing_left_out r object version (xdg_wm_base_request request))
+base-untouched : (r : Resident) (object version : ℕ) (request : XdgWmBaseRequest) → Untouched (demand_of r object version (xdg_wm_base_request request))
 base-untouched r object version base.Destroy = asks-untouched (base_destroyed r object)
 base-untouched r object version (base.CreatePositioner id) = λ q. refl
 base-untouched r object version (base.GetXdgSurface id surface) = asks-untouched (xdg_surface_made r object version id surface)
@@ -194,7 +193,7 @@ xdg-asked-untouched r (Some x) version (requests.GetPopup id parent positioner) 
 xdg-asked-untouched r (Some x) version (requests.SetWindowGeometry a b width height) = asks-untouched (geometry_set x (rect a b width height))
 xdg-asked-untouched r (Some x) version (requests.AckConfigure serial) = asks-untouched (acknowledged_by x serial)
 
-xdg-untouched : (r : Resident) (object version : ℕ) (request : XdgSurfaceRequest) → Untouched (demand_of nothing_left_out r object version (xdg_surface_request request))
+xdg-untouched : (r : Resident) (object version : ℕ) (request : XdgSurfaceRequest) → Untouched (demand_of r object version (xdg_surface_request request))
 xdg-untouched r object version (requests.GetPopup id parent positioner) =
     xdg-asked-untouched r (xdg_at object r.owned.shell) version (requests.GetPopup id parent positioner)
 xdg-untouched r object version requests.Destroy = xdg-asked-untouched r (xdg_at object r.owned.shell) version requests.Destroy
@@ -224,7 +223,7 @@ placed-untouched object parent request (Some member) = λ q. refl
 
 -- one of the client's own interfaces
 own-judged : (interface : Interface) (r : Resident) (object version : ℕ) (m : Message) → is_own interface ≡ true → m.interface ≡ interface
-    → demand_of nothing_left_out r object version m ≡ demands (owns (action_of (known_of r.peer) object version (request_of m)))
+    → demand_of r object version m ≡ demands (owns (action_of (known_of r.peer) object version (request_of m)))
 own-judged WlDisplay r object version m own is = rw is refl
 own-judged WlRegistry r object version m own is = rw is refl
 own-judged WlRegion r object version m own is = rw is refl
@@ -234,21 +233,21 @@ own-judged WlBuffer r object version m own is = rw is refl
 own-judged XdgPositioner r object version m own is = rw is refl
 own-judged interface r object version m own is = absurd (cc)
 
-own-untouched : (r : Resident) (object version : ℕ) (m : Message) → is_own m.interface ≡ true → Untouched (demand_of nothing_left_out r object version m)
+own-untouched : (r : Resident) (object version : ℕ) (m : Message) → is_own m.interface ≡ true → Untouched (demand_of r object version m)
 own-untouched r object version m own =
     subst (λ (j : Result Demand Refusal). Untouched j) (sym (own-judged m.interface r object version m own refl))
     (asks-untouched (owns (action_of (known_of r.peer) object version (request_of m))))
 
-judged-untouched : (r : Resident) (object version : ℕ) (m n : Message) → n ≡ m → Untouched (demand_of nothing_left_out r object version n) → Untouched (demand_of nothing_left_out r object version m)
-judged-untouched r object version m n is none = subst (λ (x : Message). Untouched (demand_of nothing_left_out r object version x)) is none
+judged-untouched : (r : Resident) (object version : ℕ) (m n : Message) → n ≡ m → Untouched (demand_of r object version n) → Untouched (demand_of r object version m)
+judged-untouched r object version m n is none = subst (λ (x : Message). Untouched (demand_of r object version x)) is none
 
 -- ---- what is demanded of a surface
 
 -- a request of a wl_surface
 surface-judged : (r : Resident) (object version : ℕ) (m : Message) (request : WlSurfaceRequest) → m ≡ wl_surface_request request
-    → demand_of nothing_left_out r object version m ≡ surface_demand r object version request
+    → demand_of r object version m ≡ surface_demand r object version request
 surface-judged r object version m request is =
-    ap (demand_of nothing_left_out r object version) is
+    ap (demand_of r object version) is
     ∙ ap (λ (q : Request). demand_by q r object version) (of-wl_surface request)
 
 -- if it isn't refused, it demands this
@@ -280,9 +279,9 @@ whole-only demand false object (Err refusal) only = tt
 -- ---- what is demanded of a wl_subsurface
 
 subsurface-judged : (r : Resident) (object version : ℕ) (m : Message) (request : WlSubsurfaceRequest) → m ≡ wl_subsurface_request request
-    → demand_of nothing_left_out r object version m ≡ demand_by_link r object (link_of_subsurface object r) request
+    → demand_of r object version m ≡ demand_by_link r object (link_of_subsurface object r) request
 subsurface-judged r object version m request is =
-    ap (demand_of nothing_left_out r object version) is
+    ap (demand_of r object version) is
     ∙ ap (λ (q : Request). demand_by q r object version) (of-wl_subsurface request)
 
 synced-untouched : (r : Resident) (object : ℕ) (o : Option Link) → Untouched (demand_by_link r object o subsurface.SetSync)
@@ -324,16 +323,16 @@ module _ {A : Type 0} (v : Kept A) (r : Resident) (is : IsResident v r) (orderly
   -- ---- that passes
 
   module _ (object version size target : ℕ) (m : Message) (passes : Passes v.client object version size target m) (demand : Demand)
-      (told : IsDemanded nothing_left_out (split_of r.peer.rest) r demand) where
+      (told : IsDemanded (split_of r.peer.rest) r demand) where
     abbrev left : Resident
     left = with_peer (with_rest (drop size r.peer.rest) r.peer) r
 
-    judged : demand_of nothing_left_out left object version m ≡ Ok demand
+    judged : demand_of left object version m ≡ Ok demand
     judged =
         sym (demanded-first v r object version size target m passes is)
-        ∙ subst (λ (s : Split). IsDemanded nothing_left_out s r demand) (whole-first v r object version size target m passes is) told
+        ∙ subst (λ (s : Split). IsDemanded s r demand) (whole-first v r object version size target m passes is) told
 
-    untouched : (T : Touch → Type 0) (touched : Option ℕ) → Untouched (demand_of nothing_left_out left object version m) → touched ≡ None → ((touch : Touch) → T touch → ⊥)
+    untouched : (T : Touch → Type 0) (touched : Option ℕ) → Untouched (demand_of left object version m) → touched ≡ None → ((touch : Touch) → T touch → ⊥)
         → Touches v r T touched demand
     untouched T touched none there never =
         none-touched T touched demand (subst (λ (j : Result Demand Refusal). Untouched j) judged none r) there never
@@ -342,15 +341,7 @@ module _ {A : Type 0} (v : Kept A) (r : Resident) (is : IsResident v r) (orderly
 
     surface-of-wl : (request : WlSurfaceRequest) → (wl_surface_request request).interface ≡ WlSurface
     surface-of-wl surface.Destroy = refl
-    surface-of-wl (surface.Attach buffer x y) = refl
-    surface-of-wl (surface.Damage x y width height) = refl
-    surface-of-wl (surface.Frame callback) = refl
-    surface-of-wl (surface.SetOpaqueRegion region) = refl
-    surface-of-wl (surface.SetInputRegion region) = refl
-    surface-of-wl surface.Commit = refl
-    surface-of-wl (surface.SetBufferTransform transform) = refl
-    surface-of-wl (surface.SetBufferScale scale) = refl
-    surface-of-wl (surface.DamageBuffer x y width height) = refl
+    surface-of-wl request = refl
 
     surface-named : (request : WlSurfaceRequest) → m ≡ wl_surface_request request → kept_numbers v object ≡ Some target
     surface-named request is_it =
@@ -517,7 +508,7 @@ module _ {A : Type 0} (v : Kept A) (r : Resident) (is : IsResident v r) (orderly
         toplevel-named (names_of v.client.objects) v.owned.surfaces.states v.owned.surfaces.family (kept_of v.owned.shell) r.owned is.owns object target
         (roles-named.popup v.client.objects object target named) in
         let asks : popup_asked left object (xdg_with object r.owned.shell) popup.Destroy ≡ Ok demand =
-        subst (λ (n : Message). demand_of nothing_left_out left object version n ≡ Ok demand) is_it judged in
+        subst (λ (n : Message). demand_of left object version n ≡ Ok demand) is_it judged in
         let e : demand ≡ EndPopup object its.1.id =
         is-only (EndPopup object its.1.id) demand (popup_destroyed left object its.1)
         (if-only (EndPopup object its.1.id) (is_parent its.1.id left.owned.shell) _ (Ok (EndPopup object its.1.id)) tt refl)
@@ -556,9 +547,9 @@ module _ {A : Type 0} (v : Kept A) (r : Resident) (is : IsResident v r) (orderly
 
   -- ---- that is refused
 
-  refused-demands : (s : Split) (refusal : Refusal) (demand : Demand) → IsRefused s v.client refusal → IsDemanded nothing_left_out s r demand → ⊥
+  refused-demands : (s : Split) (refusal : Refusal) (demand : Demand) → IsRefused s v.client refusal → IsDemanded s r demand → ⊥
   refused-demands (Whole object opcode size) refusal demand why told =
-      let judged = judged-refused r.peer.objects r.peer.held (λ version m. demand_of nothing_left_out r object version m) opcode (take (size - 8) (drop 8 r.peer.rest)) (r.peer.objects object) refusal
+      let judged = judged-refused r.peer.objects r.peer.held (λ version m. demand_of r object version m) opcode (take (size - 8) (drop 8 r.peer.rest)) (r.peer.objects object) refusal
       (passing-peer v.client r.peer object opcode size (Err refusal) is.peer why) in
       let both : Result.Err refusal ≡ Ok demand = sym judged ∙ told in
       absurd (cc)
@@ -567,11 +558,11 @@ module _ {A : Type 0} (v : Kept A) (r : Resident) (is : IsResident v r) (orderly
 
   -- ---- whatever is asked
 
-  pub touches : (a : Asked) (demand : Demand) (touched : Option ℕ) → IsAsked v.client a → IsDemanded nothing_left_out (split_of r.peer.rest) r demand → IsTouchedBy v a touched
+  pub touches : (a : Asked) (demand : Demand) (touched : Option ℕ) → IsAsked v.client a → IsDemanded (split_of r.peer.rest) r demand → IsTouchedBy v a touched
       → Touches v r (IsTouchOfAsked a v) touched demand
-  touches asked.More demand touched more told there = absurd (subst (λ (s : Split). IsDemanded nothing_left_out s r demand) (ap split_of (sym is.peer.rest) ∙ more) told)
+  touches asked.More demand touched more told there = absurd (subst (λ (s : Split). IsDemanded s r demand) (ap split_of (sym is.peer.rest) ∙ more) told)
   touches (asked.Refused refusal) demand touched why told there =
-      absurd (refused-demands (split_of v.client.rest) refusal demand why (subst (λ (rest : List ℕ). IsDemanded nothing_left_out (split_of rest) r demand) (sym is.peer.rest) told))
+      absurd (refused-demands (split_of v.client.rest) refusal demand why (subst (λ (rest : List ℕ). IsDemanded (split_of rest) r demand) (sym is.peer.rest) told))
   touches (asked.Own size j) demand touched own told there =
       let m = request_message own.request in
       untouched own.object own.version size own.target m own.passes demand told (λ touch. ⊥) touched
@@ -581,12 +572,12 @@ module _ {A : Type 0} (v : Kept A) (r : Resident) (is : IsResident v r) (orderly
 
 -- The surface that a message touches is the one that is taken for it, by its number.
 pub touch-named : {A : Type 0} (v : Kept A) (r : Resident) (a : Asked) (demand : Demand) (touched : Option ℕ) → IsResident v r → OwnsOrdered r → IsAsked v.client a
-    → IsDemanded nothing_left_out (split_of r.peer.rest) r demand → IsTouchedBy v a touched → IsTouchNamed v r demand touched
+    → IsDemanded (split_of r.peer.rest) r demand → IsTouchedBy v a touched → IsTouchNamed v r demand touched
 touch-named v r a demand touched is orderly asks told by = (touches v r is orderly a demand touched asks told by).named
 
 -- And the request is one of that surface that may change what several show, unless it is the end of a toplevel; where none is touched it is none.
 pub touch-is : {A : Type 0} (v : Kept A) (r : Resident) (a : Asked) (demand : Demand) (touched : Option ℕ) → IsResident v r → OwnsOrdered r → IsAsked v.client a
-    → IsDemanded nothing_left_out (split_of r.peer.rest) r demand → IsTouchedBy v a touched → IsTouchIf (IsTouchOfAsked a v) touched demand
+    → IsDemanded (split_of r.peer.rest) r demand → IsTouchedBy v a touched → IsTouchIf (IsTouchOfAsked a v) touched demand
 touch-is v r a demand touched is orderly asks told by = (touches v r is orderly a demand touched asks told by).is_touch
 
 -- the surface of such a request is the one that is taken for it
@@ -605,5 +596,5 @@ touch-by v a touch it = absurd it
 
 -- Such a request demands what changes the surfaces so.
 pub touch-demands : {A : Type 0} (v : Kept A) (r : Resident) (a : Asked) (demand : Demand) (touch : Touch) → IsResident v r → OwnsOrdered r → IsAsked v.client a
-    → IsDemanded nothing_left_out (split_of r.peer.rest) r demand → IsTouchOfAsked a v touch → IsDemandOf v r touch demand
+    → IsDemanded (split_of r.peer.rest) r demand → IsTouchOfAsked a v touch → IsDemandOf v r touch demand
 touch-demands v r a demand touch is orderly asks told it = (touches v r is orderly a demand (Some (surface_of touch)) asks told (touch-by v a touch it)).demanded touch it

@@ -16,7 +16,6 @@ ghost use Rattle.wl_clients.specs.Screens.{IsFollowed, IsParted, IsTouchedBy, ha
 ghost use Rattle.wl_clients.specs.Seats.{IsBare, IsChangedSo, IsClearedBy, IsSeated, ended_by, opened_kept};
 ghost use Rattle.wl_clients.specs.Finding.{IsPlacedBy};
 ghost use Rattle.wl_clients.specs.View.{Pile, pile_of};
-ghost use Rattle.spec_desktop.specs.LeftOut.{nothing_left_out};
 ghost use Rattle.law_desktop.specs.Ordered.{Ordered};
 ghost use Rattle.spec_desktop.specs.Happens.{Serves};
 ghost use Rattle.spec_desktop.specs.Through.{ServesThrough};
@@ -155,21 +154,21 @@ impl<A: Allocator + Copy> Screen<A> {
         ensures serves { is_some result ≡ true → (others : ℕ → ById ℕ) (base d : Desktop) (r : Plain)
             → self.old.damage.width ≡ d.output.width → self.old.damage.height ≡ d.output.height
             → IsSeated client others base resident.old (pile_of self.old) d r → Ordered d → IsGrabbingOf grabbing asked client r d
-            → (e : Desktop) × (q : Plain) × Serves nothing_left_out client d e × IsSeated client others base resident.new (pile_of self.new) e q }
+            → (e : Desktop) × (q : Plain) × Serves client d e × IsSeated client others base resident.new (pile_of self.new) e q }
         ensures marks { is_some result ≡ true → (others : ℕ → ById ℕ) (base d : Desktop) (r : Plain)
             → self.old.damage.width ≡ d.output.width → self.old.damage.height ≡ d.output.height
             → IsSeated client others base resident.old (pile_of self.old) d r → Ordered d → IsGrabbingOf grabbing asked client r d
-            → (e : Desktop) (q : Plain) → Serves nothing_left_out client d e → IsSeated client others base resident.new (pile_of self.new) e q
+            → (e : Desktop) (q : Plain) → Serves client d e → IsSeated client others base resident.new (pile_of self.new) e q
             → MarksAtLeast d e self.old.damage self.new.damage }
         ensures within { is_some result ≡ true → (others : ℕ → ById ℕ) (base d : Desktop) (r : Plain)
             → self.old.damage.width ≡ d.output.width → self.old.damage.height ≡ d.output.height
             → IsSeated client others base resident.old (pile_of self.old) d r → Ordered d → IsGrabbingOf grabbing asked client r d
-            → (e : Desktop) (q : Plain) → Serves nothing_left_out client d e → IsSeated client others base resident.new (pile_of self.new) e q
+            → (e : Desktop) (q : Plain) → Serves client d e → IsSeated client others base resident.new (pile_of self.new) e q
             → MarksAtMost client d e self.old.damage self.new.damage }
         ensures through { is_some result ≡ true → (others : ℕ → ById ℕ) (base d : Desktop) (r : Plain)
             → self.old.damage.width ≡ d.output.width → self.old.damage.height ≡ d.output.height
             → IsSeated client others base resident.old (pile_of self.old) d r → Ordered d → IsGrabbingOf grabbing asked client r d
-            → (e : Desktop) × (q : Plain) × (path : List Desktop) × ServesThrough nothing_left_out client d path e
+            → (e : Desktop) × (q : Plain) × (path : List Desktop) × ServesThrough client d path e
             × IsSeated client others base resident.new (pile_of self.new) e q × MarksThrough d path self.old.damage self.new.damage }
         ensures asks { IfSome result (λ taken. (resident.old.client.ended ≡ None) × MessageAsksPointer resident.old taken.pointer) }
         ensures seat { IfSome result (λ taken. (id : ℕ) → taken.pointer ≡ PointerAsked.NewPointer id → has_seat ≡ false

@@ -1,24 +1,17 @@
 -- What becomes of a desktop where nobody points is its own change.
-use Rattle.std.proofs.Common.{◌≡◌, ℕ, List, ◌∷◌, ◌++◌, Bool, true, false, Option, Some, None, cond, refl, ap, subst, sym, ◌∙◌, map, inl, inr, []}
-use Rattle.std.specs.Prelude.{not, filter, flat_map}
-use Rattle.wl_proto.specs.declared.interface.Interface.TheVariants.{XdgPopup}
-use Rattle.wl_proto.specs.Messages.{says}
+use Rattle.std.proofs.Common.{◌≡◌, ℕ, List, ◌∷◌, Bool, true, false, Option, Some, None, refl, ap, subst, sym, ◌∙◌, inl, inr, []}
 use Rattle.spec_desktop.specs.declared.cause.Cause.{Cause}
 use Rattle.spec_desktop.specs.declared.cause.Cause.TheVariants.{Memory, Slow}
 use Rattle.spec_desktop.specs.Peer.{Peer, Queues, QueuesOr, ended, has_room, queued}
-use Rattle.spec_desktop.specs.Told.{Said, said}
-use Rattle.wl_shell.specs.Popups.{is_among}
+use Rattle.spec_desktop.specs.Told.{Said}
 use Rattle.spec_desktop.specs.Pointer.{first_pointer}
 use Rattle.spec_desktop.specs.Stacking.{without_client}
 use Rattle.spec_desktop.specs.Changing.{with_kept_move}
 use Rattle.spec_desktop.specs.Desktop.{Desktop, Resident, become, become_by, client_at, resident_of, with_client}
-use Rattle.spec_desktop.specs.Replies.{dismissed_in, newest_first, popups_done}
 use Rattle.spec_desktop.specs.Settling.{EndsAndSettles, QueuesTo, after_status, becomes, ended_at, pointer_without, unstruck}
 use Rattle.spec_desktop.specs.Step.{with_peer}
 use Rattle.law_desktop.proofs.KeptRecords.Toplevels.Simply.{Becomes}
-use Rattle.law_desktop.specs.Toplevels.{AreToplevels}
 use Rattle.law_desktop.proofs.Runs.Forms.{after_why, Becomes as StepBecomes}
-use Rattle.law_desktop.proofs.KeptRecords.Toplevels.Changed.{no-popups}
 use Rattle.law_desktop.proofs.Runs.Places.{number-same, number-twice}
 use Rattle.law_desktop.proofs.Runs.Ends.{queues-status}
 
@@ -101,13 +94,3 @@ is-done events c made there d new is still alive h =
 
 pub kept-still : (d : Desktop) → d.pointer ≡ first_pointer → with_kept_move d ≡ d
 kept-still d still = ap (λ p. with_kept_move (record d { pointer = p })) still ∙ sym (ap (λ p. record d { pointer = p }) still)
-
-pub none-done : (r made : Resident) → AreToplevels made.owned.shell → popups_done r made ≡ []
-none-done r made top =
-    ap (λ ps. map (λ id. said id (says XdgPopup 1 [])) (filter (λ id. not (is_among id (dismissed_in r.owned.shell)))
-    (newest_first (flat_map (λ p. cond p.popup.is_dismissed (p.object.id ∷ []) []) ps))))
-    (no-popups made.owned.shell top)
-
-pub nothing-between : (xs ys : List Said) → xs ++ [] ++ ys ≡ xs ++ ys
-nothing-between [] ys = refl
-nothing-between (x ∷ xs) ys = ap (λ zs. x ∷ zs) (nothing-between xs ys)

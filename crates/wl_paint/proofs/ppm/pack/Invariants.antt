@@ -3,4 +3,4 @@ use Rattle.wl_paint.specs.Image.{colors}
 use Rattle.wl_paint.proofs.ppm.pack.Given as goal
 
 abbrev pub invariant-loop-i : goal.invariant-loop-i
-invariant-loop-i l = take (3 * l.i) l.packed ≡ colors l.i l.pixels
+invariant-loop-i l = take (3 * (4 * l.i)) l.packed ≡ colors (4 * l.i) l.pixels

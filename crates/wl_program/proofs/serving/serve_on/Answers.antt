@@ -15,7 +15,7 @@ pub loop-before-preserved : goal.loop-before-preserved
 loop-before-preserved g c =
     turns-more (ways g.H.Hub.accepts g.H.Hub.reads g.H.Hub.writes g.H.Hub.closes g.H.Hub.fault_count)
     (files_of g.S.SideFiles.opens g.S.SideFiles.gives g.S.SideFiles.fault_count) c.args.schedule.pace.rate c.loop-before.before _ _ _ _ _ _ _ _ _ _ _ _ _
-    c.time_of-time.ensures c.loop-before.invariant c.in_ok-take_turn.ensures.taken
+    c.time_of-time.ensures c.loop-before.invariant c.in_ok-take_step.ensures.taken
 
 pub returns-clause-taken : goal.returns-clause-taken
 returns-clause-taken g c =
@@ -23,8 +23,8 @@ returns-clause-taken g c =
     (files_of g.S.SideFiles.opens g.S.SideFiles.gives g.S.SideFiles.fault_count) c.args.schedule.pace.rate c.args.schedule.pace.turns c.loop-before.before _ _ _ _ _ _ _ _ (omega arith)
     c.loop-before.invariant
 
-pub returns-in_err-take_turn-clause-begun : goal.returns-in_err-take_turn-clause-begun
-returns-in_err-take_turn-clause-begun g c =
+pub returns-in_err-take_step-clause-begun : goal.returns-in_err-take_step-clause-begun
+returns-in_err-take_step-clause-begun g c =
     on_err _ (turns-begun (ways g.H.Hub.accepts g.H.Hub.reads g.H.Hub.writes g.H.Hub.closes g.H.Hub.fault_count)
     (files_of g.S.SideFiles.opens g.S.SideFiles.gives g.S.SideFiles.fault_count) c.args.schedule.pace.rate c.args.schedule.pace.turns c.loop-before.before _ _ _ _ _ _ _ _ _ _ _ (omega arith)
-    c.time_of-time.ensures c.loop-before.invariant c.in_err-take_turn.ensures.begun)
+    c.time_of-time.ensures c.loop-before.invariant c.in_err-take_step.ensures.begun)

@@ -12,6 +12,6 @@ loop-sent-preserved g c =
     let took = rw c.in-Ok-Some.field-0-is at c.in-Ok-Some.ensures in
     record {
       within = search rules;
-      written = more _ inv.written (rw (take_rest c.args.bytes.now c.loop-sent.sent) at took.bytes);
+      written = more _ inv.written (search rules) (rw (take_rest c.args.bytes.now c.loop-sent.sent) at took.bytes);
       calm = took.faults ∙ inv.calm;
     }

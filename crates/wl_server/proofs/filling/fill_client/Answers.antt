@@ -1,14 +1,17 @@
+use Rattle.std.proofs.Common.{true, false, rules}
 use Rattle.wl_recording.specs.Side.{files_of}
-use Rattle.wl_server.proofs.Pieces.{filled-all, filled-more, filled-none}
+use Rattle.wl_server.specs.Ranges.{list_name}
+use Rattle.wl_server.proofs.Pieces.{client-filled, opens-named}
 use Rattle.wl_server.proofs.filling.fill_client.Goals as goal
 
-pub loop-store-init : goal.loop-store-init
-loop-store-init g c = filled-none (files_of g.S.SideFiles.opens g.S.SideFiles.gives g.S.SideFiles.fault_count) c.args.client c.args.number c.args.side.now c.args.session.now
+pub returns-then-opens : goal.returns-then-opens
+returns-then-opens g c =
+    let files = files_of g.S.SideFiles.opens g.S.SideFiles.gives g.S.SideFiles.fault_count in
+    client-filled files c.args.client c.args.number true c.args.side.now c.opens.new.side c.fill_listed.new.side c.args.session.now c.fill_listed.new.session
+    (opens-named files _ (list_name c.args.number) 0 c.opens.result true _ _ (search rules) c.if-opens.true c.opens.ensures) c.fill_listed.ensures
 
-pub loop-store-preserved : goal.loop-store-preserved
-loop-store-preserved g c =
-    filled-more (files_of g.S.SideFiles.opens g.S.SideFiles.gives g.S.SideFiles.fault_count) c.args.client c.args.number c.loop-store.last c.in-Some.store c.args.side.now c.loop-store.side c.fill_store.new.side c.args.session.now c.loop-store.session c.fill_store.new.session c.in-Some.ensures.next c.loop-store.invariant c.fill_store.ensures
-
-pub returns : goal.returns
-returns g c =
-    filled-all (files_of g.S.SideFiles.opens g.S.SideFiles.gives g.S.SideFiles.fault_count) c.args.client c.args.number c.loop-store.last c.args.side.now c.loop-store.side c.args.session.now c.loop-store.session c.in_default.ensures.next c.loop-store.invariant
+pub returns-else-opens : goal.returns-else-opens
+returns-else-opens g c =
+    let files = files_of g.S.SideFiles.opens g.S.SideFiles.gives g.S.SideFiles.fault_count in
+    client-filled files c.args.client c.args.number false c.args.side.now c.opens.new.side c.fill_stores.new.side c.args.session.now c.fill_stores.new.session
+    (opens-named files _ (list_name c.args.number) 0 c.opens.result false _ _ (search rules) c.if-opens.false c.opens.ensures) c.fill_stores.ensures

@@ -1,5 +1,5 @@
 use Rattle.std.proofs.Common.{◌≡◌, true, false, arith}
-use Rattle.wl_server.specs.Phases.{ReadsOnce}
+use Rattle.wl_server.specs.Phases.{IsSixteen, ReadsOnce}
 use Rattle.wl_server.specs.Ways.{ways}
 use Rattle.wl_server.proofs.FedPieces.{fed-all, fed-last, fed-more, fed-none}
 use Rattle.wl_server.proofs.Taking.{Takes-is}
@@ -17,10 +17,10 @@ loop-before-preserved g c =
 pub returns-then-not-read_once : goal.returns-then-not-read_once
 returns-then-not-read_once g c =
     let w = ways g.H.Hub.accepts g.H.Hub.reads g.H.Hub.writes g.H.Hub.closes g.H.Hub.fault_count in
-    fed-last w c.args.client c.loop-before.before (c.args.hub.now, c.args.seat.now) (c.loop-before.hub, c.loop-before.seat) (c.read_once.new.hub, c.read_once.new.seat) c.args.session.now c.loop-before.session c.read_once.new.session c.loop-before-test.true c.loop-before.invariant
+    fed-last IsSixteen w c.args.client c.loop-before.before (c.args.hub.now, c.args.seat.now) (c.loop-before.hub, c.loop-before.seat) (c.read_once.new.hub, c.read_once.new.seat) c.args.session.now c.loop-before.session c.read_once.new.session c.loop-before-test.true c.loop-before.invariant
     (Takes-is (λ once. ReadsOnce w c.args.client once (c.loop-before.hub, c.loop-before.seat) (c.read_once.new.hub, c.read_once.new.seat)) c.read_once.result false c.loop-before.session c.read_once.new.session c.if-not-read_once.true c.read_once.ensures)
 
 pub returns : goal.returns
 returns g c =
     let all : c.loop-before.before ≡ 16 = omega arith in
-    fed-all (ways g.H.Hub.accepts g.H.Hub.reads g.H.Hub.writes g.H.Hub.closes g.H.Hub.fault_count) c.args.client c.loop-before.before (c.args.hub.now, c.args.seat.now) (c.loop-before.hub, c.loop-before.seat) c.args.session.now c.loop-before.session all c.loop-before.invariant
+    fed-all IsSixteen (ways g.H.Hub.accepts g.H.Hub.reads g.H.Hub.writes g.H.Hub.closes g.H.Hub.fault_count) c.args.client c.loop-before.before (c.args.hub.now, c.args.seat.now) (c.loop-before.hub, c.loop-before.seat) c.args.session.now c.loop-before.session all c.loop-before.invariant

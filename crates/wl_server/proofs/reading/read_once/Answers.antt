@@ -11,7 +11,7 @@ returns-in-Bytes g c =
     read-fed (ways g.H.Hub.accepts g.H.Hub.reads g.H.Hub.writes g.H.Hub.closes g.H.Hub.fault_count) c.args.client _ _ _ _ _ _ c.feed.ensures.course
     (record {
       conn = c.receive.new.conn;
-      long = (omega (arith, long, came.0), omega (arith, long, came.1));
+      long = (omega (arith, long, came.0), omega (arith, long, came.1, c.requires.few));
       reads = came.2;
       calm = c.in-Bytes.ensures.calm (λ e. cc);
       kept = refl;

@@ -1,11 +1,10 @@
 use Rattle.std.proofs.Common.{◌≡◌, refl}
 use Rattle.std.specs.Prelude.{◌↔◌, Result, Ok, Err, IsErrOf}
-use Rattle.wl_client.specs.Agreement.{output_of}
 use Rattle.wl_desk.proofs.Coming.{begins-empty}
 use Rattle.wl_desk.proofs.desks.Desk.new.Goals as goal
 
 pub returns-clause-desk : goal.returns-clause-desk
-returns-clause-desk g c = begins-empty _ (output_of c.args.output) c.in_ok-clients.ensures.desk c.new-2.ensures
+returns-clause-desk g c = begins-empty _ (record { width = c.args.config.width; height = c.args.config.height }) c.in_ok-clients.ensures.desk c.new-2.ensures
 
 ok-err : {X E : Type 0} (r : Result X E) (x : X) (e : E) → r ≡ Ok x → r ≡ Err e → ⊥
 ok-err r x e is bad = absurd (cc)

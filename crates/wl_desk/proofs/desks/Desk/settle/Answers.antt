@@ -1,47 +1,10 @@
-use Rattle.std.proofs.Common.{arith, ◌∙◌}
-use Rattle.wl_desk.proofs.Rests.{left-on}
-use Rattle.wl_desk.proofs.Rounds.{none-settled, settled-last, settled-next, settled-over}
+use Rattle.wl_scene.specs.Focus.{action_of, target_or_none}
+use Rattle.std.proofs.Common.{map}
+use Rattle.wl_desk.proofs.Rounds.{settled-once}
 use Rattle.wl_desk.proofs.desks.Desk.settle.Goals as goal
 
-pub loop-init : goal.loop-init
-loop-init g c = none-settled c.args.self.now
-
-pub returns-in_default-clause-settles : goal.returns-in_default-clause-settles
-returns-in_default-clause-settles g c =
-    settled-last c.loop.counter c.args.self.now c.loop.self c.loop.invariant c.settle_once.new.self c.settle_once.ensures.settles c.settle_once.ensures.damage c.loop-test.true
-    c.in_default.ensures.first
-
-pub returns-in_default-clause-sides : goal.returns-in_default-clause-sides
-returns-in_default-clause-sides g c = rw c.settle_once.ensures.damage c.loop.invariant.sides
-
-pub returns-in_default-clause-rests : goal.returns-in_default-clause-rests
-returns-in_default-clause-rests g c =
-    left-on c.args.self.now.desk.kept c.loop.self.desk.kept c.settle_once.new.self.desk.kept c.loop.invariant.rests c.settle_once.ensures.rests
-
-pub returns-in_default-clause-output : goal.returns-in_default-clause-output
-returns-in_default-clause-output g c = c.settle_once.ensures.output ∙ c.loop.invariant.output
-
-pub loop-preserved : goal.loop-preserved
-loop-preserved g c =
-    let inv = c.loop.invariant in
-    let before = rw c.settle_once.ensures.damage at c.end_refused.ensures.sides in
-    record {
-      done = settled-next c.loop.counter c.args.self.now c.loop.self inv c.settle_once.new.self c.settle_once.ensures.settles c.settle_once.ensures.damage c.in-Some.client c.in-Some.ensures.first
-          c.in-Some.ensures.count c.end_refused.new.self c.end_refused.ensures.ends c.end_refused.ensures.marks _ (omega arith);
-      sides = record { width = before.width ∙ inv.sides.width; height = before.height ∙ inv.sides.height };
-      rests = left-on c.args.self.now.desk.kept c.settle_once.new.self.desk.kept c.end_refused.new.self.desk.kept
-          (left-on c.args.self.now.desk.kept c.loop.self.desk.kept c.settle_once.new.self.desk.kept inv.rests c.settle_once.ensures.rests) c.end_refused.ensures.rests;
-      output = c.end_refused.ensures.output ∙ c.settle_once.ensures.output ∙ inv.output;
-    }
-
 pub returns-clause-settles : goal.returns-clause-settles
-returns-clause-settles g c = settled-over c.loop.counter c.args.self.now c.loop.self c.loop.invariant (omega (arith, c.loop-test.false)) c.loop.self
-
-pub returns-clause-sides : goal.returns-clause-sides
-returns-clause-sides g c = c.loop.invariant.sides
-
-pub returns-clause-rests : goal.returns-clause-rests
-returns-clause-rests g c = c.loop.invariant.rests
-
-pub returns-clause-output : goal.returns-clause-output
-returns-clause-output g c = c.loop.invariant.output
+returns-clause-settles g c = λ m midway.
+    settled-once c.self.inside.clients.desk _ _ c.self.inside.pointer c.settle-actions.new.self (target_or_none c.seen-hit.result.0) c.seen-hit.result.1 (map action_of c.settle-actions.result.items)
+    c.apply_all.new.self.desk (λ n at. c.seen-hit.ensures n (rw (← c.self.view_is) at)) c.settle-actions.ensures.acts c.settle-actions.ensures.keeps c.apply_all.ensures.told c.apply_all.ensures.pointer m
+    (rw (← c.self.view_is) at midway)

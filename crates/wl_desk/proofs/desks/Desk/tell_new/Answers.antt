@@ -25,5 +25,5 @@ returns-clause-tells g c = λ old d took alive.
     let own : c.in-Some.focus.client ≡ c.args.client = search (rules, tests) in
     ended-whole c.args.client c.args.id c.args.self.now (target_of c.in-Some.focus) own
     (focus-at c.self.inside.clients _ _ c.self.inside.pointer c.args.self.now _ c.self.view_is c.in-Some.ensures)
-    c.enter_new.new.self c.enter_new.ensures.pointer c.enter_new.ensures.damage c.enter_new.ensures.tells old d took alive c.end_refused.new.self
-    (c.enter_new.ensures.refused c.if-enter_new.false) c.end_refused.ensures.ends c.end_refused.ensures.marks c.end_refused.ensures.sides
+    c.enter_new.new.self c.enter_new.ensures.pointer c.enter_new.ensures.damage c.enter_new.ensures.tells old d took alive c.end_struck.new.self
+    (c.enter_new.ensures.refused c.if-enter_new.false) c.end_struck.ensures.ends c.end_struck.ensures.marks c.end_struck.ensures.sides

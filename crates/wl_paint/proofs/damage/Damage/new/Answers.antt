@@ -1,5 +1,6 @@
 use Rattle.std.proofs.Common.{rules, ◌≡◌, ◌∙◌, arith}
 use Rattle.wl_paint.proofs.MarkedRows.{rows-more}
+use Rattle.wl_paint.proofs.Wholes.{IsMarkedIn-none}
 use Rattle.wl_paint.proofs.damage.Damage.new.Goals as goal
 
 pub returns-clause-width : goal.returns-clause-width
@@ -21,4 +22,4 @@ loop-preserved g c =
 pub invariant_of-result : goal.invariant_of-result
 invariant_of-result g c =
     let all : c.loop.counter ≡ c.args.height = omega arith in
-    record { wide = c.requires.wide; high = c.requires.high; sized = c.loop.invariant.sized ∙ all; each_wide = λ y h. c.loop.invariant.wide y (rw all h) }
+    (record { wide = c.requires.wide; high = c.requires.high; sized = c.loop.invariant.sized ∙ all; each_wide = λ y h. c.loop.invariant.wide y (rw all h) }, IsMarkedIn-none c.loop.rows.items)

@@ -50,7 +50,7 @@ pub returns-then-branch-clause-stopped : goal.returns-then-branch-clause-stopped
 returns-then-branch-clause-stopped g c = λ first stands.
     let all : c.loop-lines.lines ≡ 1000000 = omega arith in
     let played = c.loop-lines.invariant.played first stands in
-    StopsAs-past _ first _ _ _ _ _ _ _ _ _ c.loop-lines.frames c.loop-lines.clients (rw all at played)
+    StopsAs-past _ first _ _ _ _ _ _ _ _ _ _ _ c.loop-lines.frames c.loop-lines.clients (rw all at played) (c.in_ok-read_text.ensures.taken (ap Ok c.if-branch.true))
 
 pub returns-clause-played : goal.returns-clause-played
 returns-clause-played g c = λ first stands.

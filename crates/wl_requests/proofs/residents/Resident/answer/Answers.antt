@@ -12,7 +12,6 @@ use Rattle.wl_proto.specs.declared.xdg_popup.XdgPopupRequest.{XdgPopupRequest}
 use Rattle.spec_desktop.specs.Demanding.{demand_of}
 use Rattle.spec_desktop.specs.Desktop.{Resident}
 use Rattle.spec_desktop.specs.WlSurface.{surface_created}
-use Rattle.spec_desktop.specs.LeftOut.{nothing_left_out}
 use Rattle.law_desktop.proofs.Keeping.OwningNames.{targets-at}
 use Rattle.wl_requests.specs.Messages.{IsKind}
 use Rattle.wl_requests.specs.Grabbing.{IsGrabbingFor}
@@ -35,53 +34,53 @@ use Rattle.wl_requests.proofs.residents.Resident.answer.Goals as goal
 
 -- ---- the message is that of the request
 
-answered : {A : Type 0} (old new : Kept A) (object version : ℕ) (m n : Message) → m ≡ n → AnswersDemand (λ r. demand_of nothing_left_out r object version n) old new
-    → AnswersDemand (λ r. demand_of nothing_left_out r object version m) old new
-answered old new object version m n told h = subst (λ (x : Message). AnswersDemand (λ r. demand_of nothing_left_out r object version x) old new) (sym told) h
+answered : {A : Type 0} (old new : Kept A) (object version : ℕ) (m n : Message) → m ≡ n → AnswersDemand (λ r. demand_of r object version n) old new
+    → AnswersDemand (λ r. demand_of r object version m) old new
+answered old new object version m n told h = subst (λ (x : Message). AnswersDemand (λ r. demand_of r object version x) old new) (sym told) h
 
-decided : {A : Type 0} (done : Bool) (old new : Kept A) (object version : ℕ) (m n : Message) → m ≡ n → AnswersDemandAs done (λ r. demand_of nothing_left_out r object version n) old new
-    → AnswersDemandAs done (λ r. demand_of nothing_left_out r object version m) old new
-decided done old new object version m n told h = subst (λ (x : Message). AnswersDemandAs done (λ r. demand_of nothing_left_out r object version x) old new) (sym told) h
+decided : {A : Type 0} (done : Bool) (old new : Kept A) (object version : ℕ) (m n : Message) → m ≡ n → AnswersDemandAs done (λ r. demand_of r object version n) old new
+    → AnswersDemandAs done (λ r. demand_of r object version m) old new
+decided done old new object version m n told h = subst (λ (x : Message). AnswersDemandAs done (λ r. demand_of r object version x) old new) (sym told) h
 
-stacked : {A : Type 0} (old : Kept A) (stacking : Stacking) (object version : ℕ) (m n : Message) → m ≡ n → Stacks (λ r. demand_of nothing_left_out r object version n) old stacking
-    → Stacks (λ r. demand_of nothing_left_out r object version m) old stacking
-stacked old stacking object version m n told h = subst (λ (x : Message). Stacks (λ r. demand_of nothing_left_out r object version x) old stacking) (sym told) h
+stacked : {A : Type 0} (old : Kept A) (stacking : Stacking) (object version : ℕ) (m n : Message) → m ≡ n → Stacks (λ r. demand_of r object version n) old stacking
+    → Stacks (λ r. demand_of r object version m) old stacking
+stacked old stacking object version m n told h = subst (λ (x : Message). Stacks (λ r. demand_of r object version x) old stacking) (sym told) h
 
 -- the surface of a commit is what a popup is placed for
 placed-so : {A : Type 0} (old new : Kept A) (placing : Placing) (grabbing : Grabbing) (object version : ℕ) (k : Kind) (request : WlSurfaceRequest) (m : Message) → k ≡ kinds.Surface request
     → m ≡ wl_surface_request request
-    → AnswersPlaced placing (kinds.Surface request) object (λ r. demand_of nothing_left_out r object version (wl_surface_request request)) old new
-    → AnswersGiven placing grabbing k object (λ r. demand_of nothing_left_out r object version m) old new
+    → AnswersPlaced placing (kinds.Surface request) object (λ r. demand_of r object version (wl_surface_request request)) old new
+    → AnswersGiven placing grabbing k object (λ r. demand_of r object version m) old new
 placed-so old new placing grabbing object version k request m is told h = λ c r d its only placed given.
-    subst (λ (x : Message). AnswersSo (demand_of nothing_left_out r object version x) c r d old new) (sym told)
+    subst (λ (x : Message). AnswersSo (demand_of r object version x) c r d old new) (sym told)
     (h c r d its only (subst (λ (j : Kind). IsPlacingFor placing object j c r d) is placed))
 
 -- and the popup of a request for a grab, or to be placed anew, is what these are handed in for
 given-so : {A : Type 0} (old new : Kept A) (placing : Placing) (grabbing : Grabbing) (object version : ℕ) (k : Kind) (request : XdgPopupRequest) (m : Message) → k ≡ kinds.Popup request
     → m ≡ xdg_popup_request request
-    → AnswersGiven placing grabbing (kinds.Popup request) object (λ r. demand_of nothing_left_out r object version (xdg_popup_request request)) old new
-    → AnswersGiven placing grabbing k object (λ r. demand_of nothing_left_out r object version m) old new
+    → AnswersGiven placing grabbing (kinds.Popup request) object (λ r. demand_of r object version (xdg_popup_request request)) old new
+    → AnswersGiven placing grabbing k object (λ r. demand_of r object version m) old new
 given-so old new placing grabbing object version k request m is told h = λ c r d its only placed given.
-    subst (λ (x : Message). AnswersSo (demand_of nothing_left_out r object version x) c r d old new) (sym told)
+    subst (λ (x : Message). AnswersSo (demand_of r object version x) c r d old new) (sym told)
     (h c r d its only (subst (λ (j : Kind). IsPlacingFor placing object j c r d) is placed) (subst (λ (j : Kind). IsGrabbingFor grabbing j c r d) is given))
 
 placed-as : {A : Type 0} (done : Bool) (old new : Kept A) (placing : Placing) (object version : ℕ) (k : Kind) (request : WlSurfaceRequest) (m : Message) → k ≡ kinds.Surface request
     → m ≡ wl_surface_request request
-    → AnswersPlacedAs done placing (kinds.Surface request) object (λ r. demand_of nothing_left_out r object version (wl_surface_request request)) old new
-    → AnswersPlacedAs done placing k object (λ r. demand_of nothing_left_out r object version m) old new
+    → AnswersPlacedAs done placing (kinds.Surface request) object (λ r. demand_of r object version (wl_surface_request request)) old new
+    → AnswersPlacedAs done placing k object (λ r. demand_of r object version m) old new
 placed-as done old new placing object version k request m is told h = λ c r d its only placed.
-    subst (λ (x : Message). AnswersAs done (demand_of nothing_left_out r object version x) c r d old new) (sym told)
+    subst (λ (x : Message). AnswersAs done (demand_of r object version x) c r d old new) (sym told)
     (h c r d its only (subst (λ (j : Kind). IsPlacingFor placing object j c r d) is placed))
 
 -- ---- what leaves the stack as it is
 
 compositor-stays : {A : Type 0} (old : Kept A) (r : Resident) (object version : ℕ) (request : WlCompositorRequest)
-    → StacksSo old r (demand_of nothing_left_out r object version (wl_compositor_request request)) Stays
+    → StacksSo old r (demand_of r object version (wl_compositor_request request)) Stays
 compositor-stays old r object version (compositor.CreateSurface id) = asks-stay old r (surface_created r id version)
 compositor-stays old r object version (compositor.CreateRegion id) = refl
 
 seat-stays : {A : Type 0} (old : Kept A) (r : Resident) (object version : ℕ) (request : WlSeatRequest)
-    → StacksSo old r (demand_of nothing_left_out r object version (wl_seat_request request)) Stays
+    → StacksSo old r (demand_of r object version (wl_seat_request request)) Stays
 seat-stays old r object version (seat.GetPointer id) = refl
 seat-stays old r object version (seat.GetKeyboard id) = tt
 seat-stays old r object version (seat.GetTouch id) = tt

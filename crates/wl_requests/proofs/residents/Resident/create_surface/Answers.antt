@@ -65,9 +65,9 @@ pub returns-then-is_too_many-clause-answers : goal.returns-then-is_too_many-clau
 returns-then-is_too_many-clause-answers g c = λ free client r on is only.
     let v = c.args.self.now in
     let many = c.is_too_many.ensures.0 c.if-is_too_many.true in
-    subst (λ (j : Result Ask Refusal). AnswersSo (demands j) client r on v c.refuse_unserved.new.self)
+    subst (λ (j : Result Ask Refusal). AnswersSo (demands j) client r on v c.refuse_past_limit.new.self)
     (sym (created-past (names_of v.client.objects) v.owned.surfaces.states v.owned.surfaces.family r c.args.id c.args.version c.in-Err.error is.owns.surfaces c.in-Err.ensures.cause many))
-    (rw c.in-Err.ensures.err at c.refuse_unserved.ensures.answers client r on is only)
+    (rw c.in-Err.ensures.err at c.refuse_past_limit.ensures.answers client r on is only)
 
 pub returns-else-is_too_many-clause-answers : goal.returns-else-is_too_many-clause-answers
 returns-else-is_too_many-clause-answers g c = λ free client r on is only.

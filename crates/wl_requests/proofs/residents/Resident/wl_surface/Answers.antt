@@ -12,7 +12,6 @@ use Rattle.wl_requests.specs.Residents.{StacksSo}
 use Rattle.wl_requests.specs.Touching.{Commits, Destroys, IsTouched, Touch}
 use Rattle.wl_requests.proofs.Meeting.{answered-so, asks-stay}
 use Rattle.spec_desktop.specs.Demanding.{demand_of}
-use Rattle.spec_desktop.specs.LeftOut.{nothing_left_out}
 use Rattle.wl_proto.specs.Messages.{wl_surface_request}
 use Rattle.wl_proto.specs.declared.wl_surface.WlSurfaceRequest.{WlSurfaceRequest}
 use Rattle.wl_proto.specs.declared.wl_surface.WlSurfaceRequest.TheVariants as surface
@@ -33,7 +32,7 @@ untouched v object number surface.Destroy asks touch touches = absurd (cc)
 untouched v object number request asks touch touches = touches
 
 itself-stays : {A : Type 0} (old : Kept A) (r : Resident) (object version : ℕ) (request : WlSurfaceRequest) → asks_itself request ≡ true
-    → StacksSo old r (demand_of nothing_left_out r object version (wl_surface_request request)) Stays
+    → StacksSo old r (demand_of r object version (wl_surface_request request)) Stays
 itself-stays old r object version surface.Commit asks = absurd (cc)
 itself-stays old r object version surface.Destroy asks = absurd (cc)
 itself-stays old r object version (surface.SetBufferTransform transform) asks = asks-stay old r (transform_set object transform)

@@ -2,6 +2,7 @@ use Rattle.std.proofs.Common.{refl}
 use Rattle.spec_desktop.specs.declared.answers.Done.TheVariants as gave
 use Rattle.wl_desk.specs.Agreeing.{Agrees}
 use Rattle.wl_desk.specs.Feeding.{kept_at}
+use Rattle.wl_desk.proofs.Calls.{large-on}
 use Rattle.wl_session.proofs.Courses.{fed-course, starved-course}
 use Rattle.wl_session.proofs.Feeding.{fed-served, fed-starved}
 use Rattle.wl_session.proofs.sessions.Session.feed.Goals.{in-Ok, in-Err}
@@ -17,7 +18,7 @@ returns-clause-step g c = λ d a.
           (m.0.desktop, fed-served c.args.client m.0.count c.args.piece.now d m.0.desktop c.status.result m.0.reaches m.1 (c.status.ensures m.0.desktop new), new)
       | in-Err w ↦
           let kept = w.in-Err.ensures.err d was in
-          let led = w.starve.ensures.leads d kept.0 kept.1 in
+          let led = w.starve.ensures.leads _ w.settle_all.ensures.settles d kept.0 kept.1 in
           let new : Agrees c.match-keep.self.desk led.desktop = rw w.self-is led.agrees in
           (led.desktop, fed-starved c.args.client c.args.piece.now d led.path led.desktop c.status.result led.leads (c.status.ensures led.desktop new), new)
     ]
@@ -34,8 +35,8 @@ returns-clause-course g c = λ d a.
           rw w.self-is (rw (← c.self.view_is) (fed-course c.args.client c.args.piece.now (gave.Feed c.status.result) _ _ _ d refl w.in-Ok.ensures.damage was m.0 happens kept))
       | in-Err w ↦
           let kept = w.in-Err.ensures.err d was in
-          let led = w.starve.ensures.leads d kept.0 kept.1 in
+          let led = w.starve.ensures.leads _ w.settle_all.ensures.settles d kept.0 kept.1 in
           let new : Agrees c.match-keep.self.desk led.desktop = rw w.self-is led.agrees in
           let happens = fed-starved c.args.client c.args.piece.now d led.path led.desktop c.status.result led.leads (c.status.ensures led.desktop new) in
-          rw w.self-is (rw (← c.self.view_is) (starved-course c.args.client c.args.piece.now (gave.Feed c.status.result) _ _ _ d w.in-Err.ensures.damage refl w.starve.ensures.sides was led happens))
+          rw w.self-is (rw (← c.self.view_is) (starved-course c.args.client c.args.piece.now (gave.Feed c.status.result) _ _ _ d w.in-Err.ensures.damage refl (large-on _ _ _ w.starve.ensures.sides w.settle_all.ensures.sides) was led happens))
     ]

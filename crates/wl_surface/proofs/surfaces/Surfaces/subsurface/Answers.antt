@@ -1,4 +1,4 @@
-use Rattle.wl_surface.proofs.Refusing.{deep-so, given, memory-so, never-refused, of-memory, on-err, on-ok, parent-so, role-so}
+use Rattle.wl_surface.proofs.Refusing.{deep-so, given, memory-leaves, memory-so, never-refused, of-memory, on-err, on-ok, parent-so, role-so}
 use Rattle.wl_surface.proofs.Standing.{linked-stands, unlinked-stands}
 use Rattle.wl_surface.proofs.surfaces.Surfaces.subsurface.Goals as goal
 
@@ -49,3 +49,11 @@ returns-clause-refused g c = λ all stand.
 pub returns-clause-err : goal.returns-clause-err
 returns-clause-err g c = on-err c.give_role.result (λ is all stand first second.
     absurd (never-refused all c.args.child c.is_taken.result c.give_role.result (c.is_taken.ensures.taken all stand) c.if-is_taken.false (c.give_role.ensures.refused _ stand.surfaces).0 is))
+
+pub returns-in_err-join-clause-unchanged : goal.returns-in_err-join-clause-unchanged
+returns-in_err-join-clause-unchanged g c = λ all stand. memory-leaves c.from_residual.result _ (of-memory c.from_residual.result c.from_residual.ensures.1)
+
+pub returns-clause-unchanged : goal.returns-clause-unchanged
+returns-clause-unchanged g c = λ all stand.
+    memory-leaves c.give_role.result _
+    (given c.give_role.result (never-refused all c.args.child c.is_taken.result c.give_role.result (c.is_taken.ensures.taken all stand) c.if-is_taken.false (c.give_role.ensures.refused _ stand.surfaces).0))

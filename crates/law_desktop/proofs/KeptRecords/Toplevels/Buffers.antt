@@ -1,2 +1,0 @@
--- Nothing follows a list.
-use Rattle.std.proofs.Common.{[]}

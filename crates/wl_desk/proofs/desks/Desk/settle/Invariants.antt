@@ -1,6 +1,0 @@
-use Rattle.wl_desk.proofs.Rounds.{AreSettled}
-use Rattle.wl_desk.proofs.desks.Desk.settle.Given as goal
-
--- so many rounds were done
-abbrev pub invariant-loop : goal.invariant-loop
-invariant-loop g l = AreSettled l.counter l.fn.self l.self

@@ -1,0 +1,253 @@
+//! A viewer is accepted, and its lines are taken.
+
+ghost use Rattle.std.specs.Prelude.{◌≡◌, ◌||◌, length};
+ghost use Rattle.wl_server.specs.Acting.{Takes, Then};
+ghost use Rattle.wl_server.specs.Viewed.{AttendsIf, Hears};
+ghost use Rattle.wl_server.specs.Watching.{AcceptsOne, Attends, Dismisses, Does, IfWatched, Reads, TakesOnce, Writes, Writing, act_of, acts_of, heard_by, is_dismissed, releases};
+ghost use Rattle.wl_server.specs.Ways.{ways};
+ghost use Rattle.wl_viewer.specs.Hearing.{asks};
+
+use crate::delivery::deliver;
+use crate::hub::{Hub, HubFault};
+use crate::receiving::{Received, receive};
+use crate::viewing::{Viewing, Watcher};
+use std::alloc::{AllocError, Allocator};
+use wl_session::Session;
+use wl_viewer::{Asked, Viewer};
+
+/// The most reads of a viewer in a turn.
+const READS: usize = 16;
+
+/// The most bytes of a read.
+const PIECE: usize = 4096;
+
+/// The viewer is served; then a connection that waits gets the place if nobody has it, and is served too, and else is closed at once. True where
+/// the place has somebody new.
+pub(crate) fn hear<A: Allocator + Copy, V: Hub>(
+    viewing: &mut Viewing<A, V, V::Conn>,
+    session: &mut Session<A>,
+    time: u32,
+) -> bool
+    ensures heard { Takes (Hears (ways V.accepts V.reads V.writes V.closes V.fault_count) time viewing.old.width viewing.old.height result
+        (viewing.old.hub, viewing.old.watcher) (viewing.new.hub, viewing.new.watcher)) session.old session.new }
+    ensures width { viewing.new.width ≡ viewing.old.width }
+    ensures height { viewing.new.height ≡ viewing.old.height }
+{
+    attend(&mut viewing.hub, &mut viewing.watcher, session, time);
+    let is_new = accept_viewer(viewing);
+    attend_new(
+        is_new,
+        &mut viewing.hub,
+        &mut viewing.watcher,
+        session,
+        time,
+    );
+    is_new
+}
+
+/// A viewer that got its place just now is served.
+fn attend_new<A: Allocator + Copy, V: Hub>(
+    is_new: bool,
+    hub: &mut V,
+    place: &mut Option<Watcher<A, V::Conn>>,
+    session: &mut Session<A>,
+    time: u32,
+)
+    ensures { Takes (AttendsIf is_new (ways V.accepts V.reads V.writes V.closes V.fault_count) time (hub.old, place.old) (hub.new, place.new)) session.old session.new }
+{
+    if !is_new {
+        return;
+    }
+    attend(hub, place, session, time);
+}
+
+/// A viewer is written to and read, if there is one, and leaves where it ended.
+fn attend<A: Allocator + Copy, V: Hub>(
+    hub: &mut V,
+    place: &mut Option<Watcher<A, V::Conn>>,
+    session: &mut Session<A>,
+    time: u32,
+)
+    ensures { Takes (Attends (ways V.accepts V.reads V.writes V.closes V.fault_count) time (hub.old, place.old) (hub.new, place.new)) session.old session.new }
+{
+    exchange(hub, place, session, time);
+    dismiss(hub, place, session, time);
+}
+
+/// A viewer is written to and read, if there is one.
+fn exchange<A: Allocator + Copy, V: Hub>(
+    hub: &mut V,
+    place: &mut Option<Watcher<A, V::Conn>>,
+    session: &mut Session<A>,
+    time: u32,
+)
+    ensures { Takes (IfWatched (Then (Writing (ways V.accepts V.reads V.writes V.closes V.fault_count)) (Reads (ways V.accepts V.reads V.writes V.closes V.fault_count) time)) (hub.old, place.old) (hub.new, place.new)) session.old session.new }
+{
+    if let Some(watcher) = place {
+        write_watcher(hub, watcher);
+        read_watcher(hub, watcher, session, time);
+    }
+}
+
+/// Accepts a connection that waits. True where it got the place.
+fn accept_viewer<A: Allocator + Copy, V: Hub>(viewing: &mut Viewing<A, V, V::Conn>) -> bool
+    ensures accepted { AcceptsOne (ways V.accepts V.reads V.writes V.closes V.fault_count) viewing.old.width viewing.old.height result
+        (viewing.old.hub, viewing.old.watcher) (viewing.new.hub, viewing.new.watcher) }
+    ensures width { viewing.new.width ≡ viewing.old.width }
+    ensures height { viewing.new.height ≡ viewing.old.height }
+{
+    let conn = match viewing.hub.accept() {
+        Ok(Some(conn)) => conn,
+        Ok(None) => return false,
+        Err(HubFault) => return false,
+    };
+    if viewing.watcher.is_some() {
+        viewing.hub.close(conn);
+        return false;
+    }
+    match Viewer::new(viewing.alloc, viewing.width, viewing.height) {
+        Ok(viewer) => {
+            viewing.watcher = Some(Watcher {
+                conn,
+                viewer,
+                is_told: false,
+                has_failed: false,
+            });
+            true
+        }
+        Err(AllocError) => {
+            viewing.hub.close(conn);
+            false
+        }
+    }
+}
+
+/// Writes to a viewer until it would block.
+pub(crate) fn write_watcher<A: Allocator + Copy, V: Hub>(
+    hub: &mut V,
+    watcher: &mut Watcher<A, V::Conn>,
+)
+    ensures { Writes (ways V.accepts V.reads V.writes V.closes V.fault_count) (hub.old, watcher.old) (hub.new, watcher.new) }
+{
+    if watcher.has_failed {
+        return;
+    }
+    let delivered = deliver(hub, &mut watcher.conn, watcher.viewer.out());
+    watcher.viewer.sent(delivered.bytes);
+    watcher.has_failed = delivered.is_gone;
+}
+
+/// Reads a viewer until it would block, but at most so often.
+fn read_watcher<A: Allocator + Copy, V: Hub>(
+    hub: &mut V,
+    watcher: &mut Watcher<A, V::Conn>,
+    session: &mut Session<A>,
+    time: u32,
+)
+    ensures { Takes (Reads (ways V.accepts V.reads V.writes V.closes V.fault_count) time (hub.old, watcher.old) (hub.new, watcher.new)) session.old session.new }
+{
+    let mut buf = [0; PIECE];
+    for before in 0..READS {
+        if !read_once(hub, watcher, session, time, &mut buf) {
+            return;
+        }
+    }
+}
+
+/// Reads once, and takes what came. False where no more is to be read.
+fn read_once<A: Allocator + Copy, V: Hub>(
+    hub: &mut V,
+    watcher: &mut Watcher<A, V::Conn>,
+    session: &mut Session<A>,
+    time: u32,
+    buf: &mut [u8],
+) -> bool
+    requires { length buf.old ≡ 4096 }
+    ensures { Takes (TakesOnce (ways V.accepts V.reads V.writes V.closes V.fault_count) time result (hub.old, watcher.old) (hub.new, watcher.new)) session.old session.new }
+{
+    if is_left(watcher) {
+        return false;
+    }
+    match receive(hub, &mut watcher.conn, buf) {
+        Received::Bytes(count) => {
+            take_bytes(&mut watcher.viewer, session, time, &buf[..count]);
+            true
+        }
+        Received::Later => false,
+        Received::Gone => {
+            watcher.has_failed = true;
+            false
+        }
+    }
+}
+
+/// Whether a viewer is read no more: it failed, or sent a line that is none.
+fn is_left<A: Allocator + Copy, C: Drop>(watcher: &Watcher<A, C>) -> bool
+    ensures { result ≡ (watcher.now.has_failed || watcher.now.viewer.heard.is_bad) }
+{
+    watcher.has_failed || watcher.viewer.is_bad()
+}
+
+/// Takes bytes of a viewer: the pointer does what its lines ask, at this time.
+fn take_bytes<A: Allocator + Copy>(
+    viewer: &mut Viewer<A>,
+    session: &mut Session<A>,
+    time: u32,
+    bytes: &[u8],
+)
+    ensures taken { Takes (Does (acts_of time (asks viewer.old.heard bytes.now))) session.old session.new }
+    ensures heard { viewer.new ≡ heard_by bytes.now viewer.old }
+{
+    for byte in bytes {
+        let asked = viewer.take(*byte);
+        act(session, asked, time);
+    }
+}
+
+/// The pointer does what is asked, at this time.
+fn act<A: Allocator + Copy>(session: &mut Session<A>, asked: Asked, time: u32)
+    ensures { Takes (Does (act_of time asked)) session.old session.new }
+{
+    match asked {
+        Asked::Motion { x, y } => session.motion(time, x, y),
+        Asked::Button { code, pressed } => session.button(time, code, pressed),
+        Asked::Sync { .. } | Asked::Windows | Asked::Nothing | Asked::Bad => {}
+    }
+}
+
+/// Where the viewer ended or failed, or was told of a bad line, it loses its place: the buttons that it holds are released at this time, and its
+/// connection is closed.
+pub(crate) fn dismiss<A: Allocator + Copy, V: Hub>(
+    hub: &mut V,
+    place: &mut Option<Watcher<A, V::Conn>>,
+    session: &mut Session<A>,
+    time: u32,
+)
+    ensures { Takes (Dismisses (ways V.accepts V.reads V.writes V.closes V.fault_count) time (hub.old, place.old) (hub.new, place.new)) session.old session.new }
+{
+    let Some(watcher) = place.take() else {
+        return;
+    };
+    if !is_dismissed(&watcher) {
+        *place = Some(watcher);
+        return;
+    }
+    release_all(session, watcher.viewer.held(), time);
+    hub.close(watcher.conn);
+}
+
+/// Whether a viewer failed or ended, or was told of a bad line.
+fn is_dismissed<A: Allocator + Copy, C: Drop>(watcher: &Watcher<A, C>) -> bool
+    ensures { result ≡ is_dismissed watcher.now }
+{
+    watcher.has_failed || watcher.viewer.is_done()
+}
+
+/// Releases these buttons at this time.
+fn release_all<A: Allocator + Copy>(session: &mut Session<A>, buttons: &[u32], time: u32)
+    ensures { Takes (Does (releases time buttons.now)) session.old session.new }
+{
+    for code in buttons {
+        session.button(time, *code, false);
+    }
+}

@@ -1,0 +1,154 @@
+//! Turns whose clients share the server's time.
+
+ghost use Rattle.std.specs.Prelude.{◌≡◌, ⊤, OnOk, Option};
+ghost use Rattle.wl_recording.specs.Images.{images_in};
+ghost use Rattle.wl_recording.specs.Side.{files_of};
+ghost use Rattle.wl_server.specs.Acting.{IsServed, Takes};
+ghost use Rattle.wl_server.specs.Due.{left_at};
+ghost use Rattle.wl_server.specs.Phases.{Serves, StartsServing};
+ghost use Rattle.wl_server.specs.Sharing.{IsSharedTurn, IsSharedViewedTurn, SharesIn, StartsSharedTurn};
+ghost use Rattle.wl_server.specs.Telling.{IsToldOf, Tells};
+ghost use Rattle.wl_server.specs.Viewed.{ServesViewed};
+ghost use Rattle.wl_server.specs.Ways.{serving, ways};
+ghost use Rattle.wl_viewer.specs.Telling.{Update};
+
+use crate::error::TurnError;
+use crate::hearing::hear;
+use crate::hub::Hub;
+use crate::phases::{give_out, take_shared_in};
+use crate::pointing::point_all;
+use crate::seat::Connections;
+use crate::service::Service;
+use crate::sharing::Shares;
+use crate::showing::show;
+use crate::viewed::{show_viewed, tell};
+use crate::viewing::Viewing;
+use std::alloc::Allocator;
+use std::io::Write;
+use std::time::Clock;
+use wl_recording::SideFiles;
+
+/// Takes one turn as [`turn`](crate::turn) does, whose clients share the server's time: each is read while its share lasts, once at least and 16
+/// times at most, and what it sent besides waits for the next turn. What it took it owes, and it isn't read while it owes more than
+/// the time since the last turn pays; so one that is alone has all the time, and none holds up the others. Where the clock tells no time,
+/// nothing is owed.
+pub fn shared_turn<A: Allocator + Copy, H: Hub, S: SideFiles, K: Clock, W: Write, P: Write>(
+    shares: &mut Shares<'_, K>,
+    service: &mut Service<A, H, S>,
+    connections: &mut Connections<H::Conn>,
+    time: u32,
+    report: &mut W,
+    ppm: &mut Option<P>,
+) -> Result<(), TurnError>
+    ensures taken { OnOk result (IsServed (IsSharedTurn (ways H.accepts H.reads H.writes H.closes H.fault_count) (files_of S.opens S.gives S.fault_count) time
+        (serving service.old.hub connections.old service.old.side service.old.waiting) (serving service.new.hub connections.new service.new.side service.new.waiting))
+        (IsToldOf (W.contents report.old) (W.contents report.new) (images_in P.contents ppm.old) (images_in P.contents ppm.new))
+        service.old.session service.new.session) }
+    ensures begun { IsServed (StartsSharedTurn (ways H.accepts H.reads H.writes H.closes H.fault_count) (files_of S.opens S.gives S.fault_count) time
+        (serving service.old.hub connections.old service.old.side service.old.waiting) (serving service.new.hub connections.new service.new.side service.new.waiting))
+        (λ events. ⊤) service.old.session service.new.session }
+    ensures waiting { service.new.waiting ≡ left_at time service.old.waiting }
+{
+    point_all(&mut service.session, &mut service.waiting, time);
+    take_phases(shares, service, connections, time, report, ppm)
+}
+
+/// Serves the clients: the phases of a turn, but that of the pointer's lines.
+fn take_phases<A: Allocator + Copy, H: Hub, S: SideFiles, K: Clock, W: Write, P: Write>(
+    shares: &mut Shares<'_, K>,
+    service: &mut Service<A, H, S>,
+    connections: &mut Connections<H::Conn>,
+    time: u32,
+    report: &mut W,
+    ppm: &mut Option<P>,
+) -> Result<(), TurnError>
+    ensures taken { OnOk result (Tells (Serves (SharesIn (ways H.accepts H.reads H.writes H.closes H.fault_count) (files_of S.opens S.gives S.fault_count)) (ways H.accepts H.reads H.writes H.closes H.fault_count) time 32
+        (serving service.old.hub connections.old service.old.side service.old.waiting) (serving service.new.hub connections.new service.new.side service.new.waiting))
+        service.old.session service.new.session (W.contents report.old) (W.contents report.new)
+        (images_in P.contents ppm.old) (images_in P.contents ppm.new)) }
+    ensures begun { Takes (StartsServing (SharesIn (ways H.accepts H.reads H.writes H.closes H.fault_count) (files_of S.opens S.gives S.fault_count)) (ways H.accepts H.reads H.writes H.closes H.fault_count) time
+        (serving service.old.hub connections.old service.old.side service.old.waiting) (serving service.new.hub connections.new service.new.side service.new.waiting))
+        service.old.session service.new.session }
+    ensures waiting { service.new.waiting ≡ service.old.waiting }
+{
+    take_shared_in(shares, service, connections, report)?;
+    show(&mut service.session, time, report, ppm)?;
+    give_out(service, connections, report)
+}
+
+/// Takes one turn with a viewer as [`turn_viewed`](crate::turn_viewed) does, whose clients share the server's time as those of [`shared_turn`] do.
+pub fn shared_turn_viewed<
+    A: Allocator + Copy,
+    H: Hub,
+    S: SideFiles,
+    V: Hub,
+    K: Clock,
+    W: Write,
+    P: Write,
+>(
+    shares: &mut Shares<'_, K>,
+    service: &mut Service<A, H, S>,
+    connections: &mut Connections<H::Conn>,
+    viewing: &mut Viewing<A, V, V::Conn>,
+    time: u32,
+    report: &mut W,
+    ppm: &mut Option<P>,
+) -> Result<(), TurnError>
+    ensures taken { OnOk result (IsServed (IsSharedViewedTurn (ways H.accepts H.reads H.writes H.closes H.fault_count) (ways V.accepts V.reads V.writes V.closes V.fault_count) (files_of S.opens S.gives S.fault_count) time viewing.old.width viewing.old.height
+        (serving service.old.hub connections.old service.old.side service.old.waiting, (viewing.old.hub, viewing.old.watcher))
+        (serving service.new.hub connections.new service.new.side service.new.waiting, (viewing.new.hub, viewing.new.watcher)))
+        (IsToldOf (W.contents report.old) (W.contents report.new) (images_in P.contents ppm.old) (images_in P.contents ppm.new))
+        service.old.session service.new.session) }
+    ensures waiting { service.new.waiting ≡ left_at time service.old.waiting }
+    ensures width { viewing.new.width ≡ viewing.old.width }
+    ensures height { viewing.new.height ≡ viewing.old.height }
+{
+    point_all(&mut service.session, &mut service.waiting, time);
+    hear(viewing, &mut service.session, time);
+    take_viewed_phases(shares, service, connections, viewing, time, report, ppm)?;
+    tell(
+        &mut viewing.hub,
+        &mut viewing.watcher,
+        &mut service.session,
+        time,
+    );
+    Ok(())
+}
+
+/// Serves the clients, and the viewer is told of the frame: the phases of a turn, but those of the pointer's lines and of the viewer's connection.
+fn take_viewed_phases<
+    A: Allocator + Copy,
+    H: Hub,
+    S: SideFiles,
+    V: Hub,
+    K: Clock,
+    W: Write,
+    P: Write,
+>(
+    shares: &mut Shares<'_, K>,
+    service: &mut Service<A, H, S>,
+    connections: &mut Connections<H::Conn>,
+    viewing: &mut Viewing<A, V, V::Conn>,
+    time: u32,
+    report: &mut W,
+    ppm: &mut Option<P>,
+) -> Result<(), TurnError>
+    ensures taken { OnOk result ((update : Option Update) × Tells (ServesViewed (SharesIn (ways H.accepts H.reads H.writes H.closes H.fault_count) (files_of S.opens S.gives S.fault_count)) (ways H.accepts H.reads H.writes H.closes H.fault_count) time 32 update
+        (serving service.old.hub connections.old service.old.side service.old.waiting, (viewing.old.hub, viewing.old.watcher))
+        (serving service.new.hub connections.new service.new.side service.new.waiting, (viewing.new.hub, viewing.new.watcher)))
+        service.old.session service.new.session (W.contents report.old) (W.contents report.new)
+        (images_in P.contents ppm.old) (images_in P.contents ppm.new)) }
+    ensures waiting { service.new.waiting ≡ service.old.waiting }
+    ensures width { viewing.new.width ≡ viewing.old.width }
+    ensures height { viewing.new.height ≡ viewing.old.height }
+{
+    take_shared_in(shares, service, connections, report)?;
+    show_viewed(
+        &mut service.session,
+        &mut viewing.watcher,
+        time,
+        report,
+        ppm,
+    )?;
+    give_out(service, connections, report)
+}

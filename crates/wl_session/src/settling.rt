@@ -1,0 +1,42 @@
+//! The ends of a step: a client that can't be told ends, and the focus of the pointer is settled again.
+
+ghost use Rattle.std.specs.Prelude.{◌≡◌, ℕ, ◌≤◌, length};
+ghost use Rattle.wl_scene.specs.Marking.{IsAsLarge};
+ghost use Rattle.wl_desk.specs.Feeding.{rest_in};
+ghost use Rattle.wl_desk.specs.Ways.{EndsFrom, SettlesFrom};
+
+use std::alloc::Allocator;
+use wl_desk::{Desk, MAX_CLIENTS};
+
+/// How often the focus may have to be settled in a step: each time but the last ends a client.
+const SETTLINGS: usize = MAX_CLIENTS + 1;
+
+/// The focus is settled, and the client of the least number that can't be told of it ends, and the focus is settled again, and so on until
+/// nobody is to end. The windows of those that end are marked, and no more.
+pub(crate) fn settle_all<A: Allocator + Copy>(desk: &mut Desk<A>)
+    ensures settles { SettlesFrom desk.old desk.new }
+    ensures sides { IsAsLarge desk.old.damage desk.new.damage }
+    ensures rests { (c : ℕ) → length (rest_in c desk.new.desk.kept) ≤ length (rest_in c desk.old.desk.kept) }
+    ensures output { desk.new.desk.kept.output ≡ desk.old.desk.kept.output }
+{
+    for _ in 0..SETTLINGS {
+        desk.settle();
+        let Some(client) = desk.struck() else {
+            return;
+        };
+        desk.end_struck(client);
+    }
+}
+
+/// The same where the focus is settled already: nothing is done unless somebody is to end.
+pub(crate) fn end_all<A: Allocator + Copy>(desk: &mut Desk<A>)
+    ensures ends { EndsFrom desk.old desk.new }
+    ensures sides { IsAsLarge desk.old.damage desk.new.damage }
+    ensures rests { (c : ℕ) → length (rest_in c desk.new.desk.kept) ≤ length (rest_in c desk.old.desk.kept) }
+    ensures output { desk.new.desk.kept.output ≡ desk.old.desk.kept.output }
+{
+    let Some(_) = desk.struck() else {
+        return;
+    };
+    settle_all(desk);
+}

@@ -1,0 +1,1 @@
+"""The bridge between unmodified clients and the server."""
