@@ -28,13 +28,13 @@ fn stack_is<A: Allocator + Copy>(
     surface: SurfaceNo,
     wanted: &[Placed],
 ) -> bool {
-    surfaces.family.stack(surface) == wanted
+    surfaces.stack(surface) == wanted
 }
 
 // Makes so many surfaces.
 fn made<A: Allocator + Copy>(surfaces: &mut Surfaces<A>, count: usize) -> bool {
     for number in 0..count {
-        if surfaces.states.create() != Ok(number) {
+        if surfaces.create() != Ok(number) {
             return false;
         }
     }
@@ -50,7 +50,7 @@ fn attach<A: Allocator + Copy>(surfaces: &mut Surfaces<A>, surface: SurfaceNo, n
             store: 1,
             layout,
         };
-        surfaces.states.attach(surface, Some(buffer), 0, 0);
+        surfaces.attach(surface, Some(buffer), 0, 0);
     }
 }
 
@@ -61,11 +61,11 @@ fn damage_at<A: Allocator>(surfaces: &mut Surfaces<A>, surface: SurfaceNo, at: i
         w: 1,
         h: 1,
     };
-    surfaces.states.damage(surface, point) == Ok(())
+    surfaces.damage(surface, point) == Ok(())
 }
 
 fn shown<A: Allocator>(surfaces: &Surfaces<A>, surface: SurfaceNo) -> Option<BufferNo> {
-    let current = surfaces.states.current(surface)?;
+    let current = surfaces.current(surface)?;
     Some(current.buffer?.number)
 }
 
@@ -149,7 +149,7 @@ fn holds_commits<A: Allocator + Copy>(surfaces: &mut Surfaces<A>) -> bool {
         && commits(surfaces, CHILD, 19, &[], &[])
         && commits(surfaces, CHILD, 20, &[], &[19])
         && shown(surfaces, CHILD) == Some(18)
-        && surfaces.states.is_busy(20)
+        && surfaces.is_busy(20)
         && tells(surfaces.commit(ROOT), &[(ROOT, 0), (CHILD, 2)], &[18])
         && shown(surfaces, CHILD) == Some(20)
 }
@@ -188,9 +188,9 @@ fn ends_with_its_link<A: Allocator + Copy>(surfaces: &mut Surfaces<A>) -> bool {
         && commits(surfaces, CHILD, 19, &[], &[])
         && tells(surfaces.remove_subsurface(CHILD), &[(CHILD, 1)], &[18])
         && stack_is(surfaces, ROOT, &[ITSELF])
-        && surfaces.family.link(CHILD).is_none()
+        && surfaces.link(CHILD).is_none()
         && tells(surfaces.remove_subsurface(CHILD), &[], &[]);
-    surfaces.states.attach(CHILD, None, 0, 0);
+    surfaces.attach(CHILD, None, 0, 0);
     is_ended && tells(surfaces.commit(CHILD), &[(CHILD, 0)], &[19])
 }
 
@@ -199,7 +199,7 @@ fn ends_with_its_parent<A: Allocator + Copy>(surfaces: &mut Surfaces<A>) -> bool
     surfaces.subsurface(CHILD, ROOT) == Ok(())
         && commits(surfaces, CHILD, 20, &[], &[])
         && tells(surfaces.destroy(ROOT), &[(ROOT, 0), (CHILD, 1)], &[10])
-        && surfaces.family.link(CHILD).is_none()
+        && surfaces.link(CHILD).is_none()
         && shown(surfaces, CHILD) == Some(20)
 }
 
@@ -302,12 +302,12 @@ fn answered_otherwise<A: Allocator + Copy>(
 // Whether links are refused in this order.
 fn refuses_links<A: Allocator + Copy>(surfaces: &mut Surfaces<A>) -> bool {
     made(surfaces, 20)
-        && surfaces.states.give_role(19, Role::Toplevel) == Ok(())
+        && surfaces.give_role(19, Role::Toplevel) == Ok(())
         && chains_16(surfaces)
         && answered_otherwise(surfaces, &ASKED).is_none()
         && tells(surfaces.remove_subsurface(16), &[(16, 0)], &[])
         && surfaces.subsurface(0, 17) == Err(SurfaceError::TooDeep)
-        && surfaces.states.role(18) == Some(Role::Subsurface)
+        && surfaces.role(18) == Some(Role::Subsurface)
 }
 
 // wl_subcompositor.get_subsurface

@@ -75,7 +75,7 @@ impl<A: Allocator + Copy> Resident<A> {
     fn is_over(&self, buffer: Attached) -> bool
         ensures { (r : Plain) (numbers : ById ℕ) → IsPeer self.now.client r.peer → AreKept numbers self.now.owned.surfaces.states self.now.owned.surfaces.family r.owned.surfaces → result ≡ is_over r (buffer_of buffer) }
     {
-        !self.is_named(buffer) && !self.owned.surfaces.states.is_used(buffer.number)
+        !self.is_named(buffer) && !self.owned.surfaces.is_used(buffer.number)
     }
 
     /// Lets the store of a buffer go that is over, unless it went before.

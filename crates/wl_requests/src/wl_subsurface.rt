@@ -29,7 +29,7 @@ impl<A: Allocator + Copy> Resident<A> {
         ensures { IsChildOf self.now object result }
     {
         let child = self.subsurfaces.surface_of(object)?;
-        match self.owned.surfaces.family.link(child) {
+        match self.owned.surfaces.link(child) {
             Some(_) => Some(child),
             None => None,
         }

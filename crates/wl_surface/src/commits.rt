@@ -63,10 +63,10 @@ impl<A: Allocator + Copy> Surfaces<A> {
         ensures err { OnErr result (self.new ≡ self.old) }
         ensures cause { (all : Asked) → Stand self.old.states self.old.family all → MatchBool (is_whole_at (surface_at surface all)) (IfErr result (λ e. e ≡ SurfaceError.Memory)) (result ≡ Err SurfaceError.Size) }
     {
-        if !self.states.is_whole(surface) {
+        if !self.is_whole(surface) {
             return Err(SurfaceError::Size);
         }
-        if self.family.behaves_synchronised(surface) {
+        if self.behaves_synchronised(surface) {
             return self.hold(surface);
         }
         self.commit_now(surface)
@@ -143,10 +143,10 @@ impl<A: Allocator + Copy> Surfaces<A> {
         ensures err { OnErr result (self.new ≡ self.old) }
         ensures cause { IfErr result (λ e. e ≡ SurfaceError.Memory) }
     {
-        if self.family.link(child).is_none() {
+        if self.link(child).is_none() {
             return Ok(self.nothing());
         }
-        let was_synchronised = self.family.behaves_synchronised(child);
+        let was_synchronised = self.behaves_synchronised(child);
         let room = self.room(child, Vec::new(self.alloc))?;
         self.family.set_synchronised(child, false);
         let is_synchronised = self.family.behaves_synchronised(child);
@@ -176,7 +176,7 @@ impl<A: Allocator + Copy> Surfaces<A> {
         ensures err { OnErr result (self.new ≡ self.old) }
         ensures cause { IfErr result (λ e. e ≡ SurfaceError.Memory) }
     {
-        if self.family.link(child).is_none() {
+        if self.link(child).is_none() {
             return Ok(self.nothing());
         }
         let room = self.room(child, Vec::new(self.alloc))?;
@@ -236,7 +236,7 @@ impl<A: Allocator + Copy> Surfaces<A> {
     fn is_shown(&self, surface: SurfaceNo) -> bool
         ensures { (all : Numbered) → StandForAll self.now.states all → result ≡ is_shown_at (all surface) }
     {
-        match self.states.current(surface) {
+        match self.current(surface) {
             Some(current) => current.buffer.is_some(),
             None => false,
         }

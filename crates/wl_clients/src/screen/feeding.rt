@@ -198,7 +198,7 @@ impl<A: Allocator + Copy> Screen<A> {
         };
         let root = root_of(resident, surface);
         let toplevel = find_toplevel(&resident.owned.shell, &self.stacked, client, root);
-        let surfaces = resident.owned.surfaces.states.len();
+        let surfaces = resident.owned.surfaces.len();
         let has_room = self.prepare(client, toplevel, surfaces).is_ok();
         let Some(outcome) = resident.serve(asked, has_room, placing, grabbing) else {
             return None;
