@@ -130,5 +130,8 @@ fn kept_hit<A: Allocator + Copy>(surfaces: &SurfaceStates<A>, alloc: A) -> Optio
 fn the_surface_of_the_topmost_window_is_hit(rt: HostRuntime) {
     let mut surfaces = Surfaces::new(rt.alloc());
     assert!(rt; are_made(&mut surfaces, rt.alloc()));
-    assert_eq!(rt; kept_hit(surfaces.states(), rt.alloc()), Some((true, false)));
+    assert_eq!(rt;
+        kept_hit(surfaces.states(), rt.alloc()),
+        Some((true, false))
+    );
 }

@@ -3,7 +3,7 @@ use test_support::Refusing;
 use wl_geom::Rect;
 use wl_links::{Member, Placed};
 use wl_store::layout;
-use wl_surface::{Attached, BufferNo, Role, SurfaceError, SurfaceNo, Surfaces, Told};
+use wl_surface::{Applied, Attached, BufferNo, Role, SurfaceError, SurfaceNo, Surfaces};
 
 const ROOT: SurfaceNo = 0;
 
@@ -71,12 +71,12 @@ fn shown<A: Allocator>(surfaces: &Surfaces<A>, surface: SurfaceNo) -> Option<Buf
 
 // Whether an answer tells just this: of each of these surfaces, in this order, so many rectangles, and that these buffers are freed.
 fn tells<A: Allocator>(
-    answer: Result<Told<A>, SurfaceError>,
+    answer: Result<Applied<A>, SurfaceError>,
     wanted: &[(SurfaceNo, usize)],
     freed: &[BufferNo],
 ) -> bool {
     match answer {
-        Ok(Told { applied, .. }) => {
+        Ok(applied) => {
             applied.changes.len() == wanted.len()
                 && applied.changes.iter().zip(wanted).all(|(change, row)| change.surface == row.0
                     && change.rects.len() == row.1)
@@ -87,7 +87,10 @@ fn tells<A: Allocator>(
 }
 
 // Whether an answer tells that just these buffers were shown, in this order, each as it was attached.
-fn tells_shown<A: Allocator>(answer: Result<Told<A>, SurfaceError>, wanted: &[BufferNo]) -> bool {
+fn tells_shown<A: Allocator>(
+    answer: Result<Applied<A>, SurfaceError>,
+    wanted: &[BufferNo],
+) -> bool {
     match answer {
         Ok(told) => {
             told.shown.len() == wanted.len()
@@ -320,7 +323,7 @@ fn links_are_refused(rt: HostRuntime) {
 // What a commit of the window and of its child tells, the window's first: None where there was no memory for it.
 fn committed<A: Allocator + Copy>(surfaces: &mut Surfaces<A>, surface: SurfaceNo) -> Option<usize> {
     match surfaces.commit(surface) {
-        Ok(told) => Some(told.applied.changes.len()),
+        Ok(told) => Some(told.changes.len()),
         Err(_) => None,
     }
 }

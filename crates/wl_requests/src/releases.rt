@@ -28,7 +28,7 @@ ghost use Rattle.wl_requests.specs.Residents.{Leaves};
 use crate::residents::Resident;
 use std::alloc::{AllocError, Allocator};
 use wl_client::release_event;
-use wl_surface::{Attached, BufferNo, Told};
+use wl_surface::{Applied, Attached, BufferNo};
 use wl_table::put_rising;
 
 /// Whether these are the same buffer.
@@ -139,7 +139,11 @@ impl<A: Allocator + Copy> Resident<A> {
     /// What a request applied to surfaces was told: of the buffers that it freed the stores of those go that are over, and the wl_buffers that are
     /// released are answered, by their ids in rising order. None where there is no room for the windows that it leads to, or no memory; then the
     /// client lacks that.
-    pub(crate) fn let_go_of_told(&mut self, told: &Told<A>, has_room: bool) -> Option<Vec<u32, A>>
+    pub(crate) fn let_go_of_told(
+        &mut self,
+        told: &Applied<A>,
+        has_room: bool,
+    ) -> Option<Vec<u32, A>>
         ensures lacks { IfNone result ((p : Peer) → IsPeer self.old.client p → (q : Peer) × LacksMemory p q × IsPeer self.new.client q) }
         ensures ended { IfNone result (is_some self.new.client.ended ≡ true) }
         ensures lets_go { IfSome result (λ released. IsLetGo told.now released.items self.old self.new) }
@@ -152,11 +156,11 @@ impl<A: Allocator + Copy> Resident<A> {
             self.client.lack_memory();
             return None;
         }
-        let Ok(released) = self.released(&told.applied.freed, &told.shown) else {
+        let Ok(released) = self.released(&told.freed, &told.shown) else {
             self.client.lack_memory();
             return None;
         };
-        self.let_go_of_freed(&told.applied.freed, &told.shown);
+        self.let_go_of_freed(&told.freed, &told.shown);
         Some(released)
     }
 

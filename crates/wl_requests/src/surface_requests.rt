@@ -122,11 +122,10 @@ impl<A: Allocator + Copy> Resident<A> {
         let Some(released) = self.let_go_of_told(&told, has_room) else {
             return None;
         };
-        self.let_go_if_over(pending, is_freed(pending, &told.applied.freed));
-        self.client
-            .remove_with(object, &told.applied.callbacks, None);
+        self.let_go_if_over(pending, is_freed(pending, &told.freed));
+        self.client.remove_with(object, &told.callbacks, None);
         self.tell_releases(&released);
-        Some(told.applied)
+        Some(told)
     }
 
     /// wl_surface.attach of the buffer with this id, or of none for null, at this offset in pixels.
@@ -267,7 +266,7 @@ impl<A: Allocator + Copy> Resident<A> {
         };
         self.tell_act(surface, act, serial);
         self.tell_releases(&released);
-        Some(told.applied)
+        Some(told)
     }
 
     /// wl_surface.set_buffer_transform to one of the eight.

@@ -120,7 +120,7 @@ impl<A: Allocator + Copy> Resident<A> {
             return None;
         };
         self.tell_releases(&released);
-        Some(told.applied)
+        Some(told)
     }
 
     /// A wl_subsurface goes whose link has ended: its surface, if that is there, may have another.
@@ -165,7 +165,7 @@ impl<A: Allocator + Copy> Resident<A> {
         };
         self.client.remove(object);
         self.tell_releases(&released);
-        Some(told.applied)
+        Some(told)
     }
 
     /// A request of a wl_subsurface whose siblings are there.

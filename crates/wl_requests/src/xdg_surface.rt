@@ -132,10 +132,7 @@ impl<A: Allocator + Copy> Resident<A> {
         let has_other_role = is_other_role(self.owned.surfaces.role(surface));
         match self.owned.shell.get_toplevel(surface, id, has_other_role) {
             Ok(()) => {
-                let _given = self
-                    .owned
-                    .surfaces
-                    .give_role(surface, Role::Toplevel);
+                let _given = self.owned.surfaces.give_role(surface, Role::Toplevel);
                 let entry = Entry {
                     interface: Interface::XdgToplevel,
                     version,

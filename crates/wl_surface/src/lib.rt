@@ -21,7 +21,6 @@ mod tree;
 pub mod tree_laws;
 
 pub use applied::{Applied, Change};
-pub use commits::Told;
 pub use content::{Attached, BufferNo, Offset, bounded_sum, held};
 pub use error::SurfaceError;
 pub use role::Role;

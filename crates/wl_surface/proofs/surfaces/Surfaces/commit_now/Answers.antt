@@ -56,7 +56,7 @@ returns-clause-changes g c = λ all stand.
     let those = mid-those v.states c.hold.new.self new.states v.family c.hold-2.new.self new.family all c.args.surface c.in_ok-room.room.below.items
     changes stacks places links c.in_ok-room.ensures.those stand in
     tree-told c.hold.new.self new.states c.hold-2.new.self new.family (held c.args.surface all) c.args.surface c.in_ok-room.room.below.items mid those
-    c.in_ok-room.room.changes.items c.apply_tree.result.applied.changes.items
+    c.in_ok-room.room.changes.items c.apply_tree.result.changes.items
     (c.in_ok-room.ensures.told ∙ c.new.ensures.items) c.in_ok-room.ensures.once (c.apply_tree.ensures.told (numbered (held c.args.surface all)) mid.surfaces c.in_ok-room.ensures.once)
 
 pub returns-clause-freed : goal.returns-clause-freed
@@ -72,7 +72,7 @@ returns-clause-freed g c = λ all stand.
     let after = (returns-clause-ok g c all stand).surfaces in
     now-freed v.states c.hold.new.self new.states v.family c.hold-2.new.self new.family all c.args.surface c.in_ok-room.room.below.items
     changes stacks places links c.in_ok-room.ensures.those stand
-    (numbers_of (map buffer_of c.in_ok-room.room.shown.items)) c.apply_tree.result.applied.freed.items
+    (numbers_of (map buffer_of c.in_ok-room.room.shown.items)) c.apply_tree.result.freed.items
     (among-shown c.in_ok-room.room.below.items (numbered all) c.in_ok-room.room.shown.items (c.in_ok-room.ensures.shown (numbered all) stand.surfaces))
     (c.apply_tree.ensures.freed _ after)
 

@@ -47,7 +47,7 @@ returns-clause-changes g c = λ all stand.
     let new = c.apply_tree-applied.new.self in
     destroyed-told v.states c.destroy.new.self new.states v.family c.remove.new.self new.family all c.args.surface c.in_ok-room.room.below.items
     c.in_ok-room.ensures.hang stand c.in_ok-room.ensures.those
-    c.in_ok-own.own.items c.apply_tree-applied.result.applied.changes.items c.in_ok-room.room.changes.items (c.in_ok-own.ensures (numbered all) stand.surfaces) c.in_ok-room.ensures.told
+    c.in_ok-own.own.items c.apply_tree-applied.result.changes.items c.in_ok-room.room.changes.items (c.in_ok-own.ensures (numbered all) stand.surfaces) c.in_ok-room.ensures.told
     c.in_ok-room.ensures.once
     (c.apply_tree-applied.ensures.told (with_at c.args.surface None (numbered all)) (gone (numbered all) stand.surfaces) c.in_ok-room.ensures.once)
 
@@ -58,7 +58,7 @@ returns-clause-freed g c = λ all stand.
     let after = (returns-clause-ok g c all stand).surfaces in
     destroyed-freed v.states c.destroy.new.self new.states v.family c.remove.new.self new.family all c.args.surface c.in_ok-room.room.below.items
     c.in_ok-room.ensures.hang stand c.in_ok-room.ensures.those
-    (numbers_of (map buffer_of c.in_ok-room.room.shown.items)) c.apply_tree-applied.result.applied.freed.items
+    (numbers_of (map buffer_of c.in_ok-room.room.shown.items)) c.apply_tree-applied.result.freed.items
     (among-shown c.in_ok-room.room.below.items (numbered all) c.in_ok-room.room.shown.items (c.in_ok-room.ensures.shown (numbered all) stand.surfaces))
     (c.apply_tree-applied.ensures.freed _ after)
 

@@ -86,7 +86,7 @@ returns-clause-changes g c = λ all number link is stand.
     stacks c.in_ok-room.ensures.those)
     (ended-those v.states v.family c.leave.new.self all number c.args.child link c.in_ok-room.room.below.items is stand links there
     stacks c.in_ok-room.ensures.those)
-    c.in_ok-room.room.changes.items c.apply_tree.result.applied.changes.items (c.in_ok-room.ensures.told ∙ c.new.ensures.items) c.in_ok-room.ensures.once
+    c.in_ok-room.room.changes.items c.apply_tree.result.changes.items (c.in_ok-room.ensures.told ∙ c.new.ensures.items) c.in_ok-room.ensures.once
     (told (numbered all) stand.surfaces c.in_ok-room.ensures.once)
 
 pub returns-clause-freed : goal.returns-clause-freed
@@ -100,13 +100,13 @@ returns-clause-freed g c = λ all number link is stand.
     let ended = ended-is v.states v.family c.leave.new.self all number c.args.child link c.in_ok-room.room.below.items is stand links
     there stacks c.in_ok-room.ensures.those in
     let after = subst (λ (a : Surfaces). Stand new.states new.family a) ended (returns-clause-ok g c all number link is stand) in
-    subst (λ (a : Surfaces). AreFreed c.apply_tree.result.applied.freed.items (numbered all) (numbered a)) (sym ended)
+    subst (λ (a : Surfaces). AreFreed c.apply_tree.result.freed.items (numbered all) (numbered a)) (sym ended)
     (tree-freed v.states new.states c.leave.new.self new.family (with_link number ending all) c.args.child c.in_ok-room.room.below.items
     (ended-stands v.states v.family c.leave.new.self all number c.args.child link c.in_ok-room.room.below.items is stand links there
     stacks c.in_ok-room.ensures.those)
     (ended-those v.states v.family c.leave.new.self all number c.args.child link c.in_ok-room.room.below.items is stand links there
     stacks c.in_ok-room.ensures.those)
-    (numbers_of (map buffer_of c.in_ok-room.room.shown.items)) c.apply_tree.result.applied.freed.items
+    (numbers_of (map buffer_of c.in_ok-room.room.shown.items)) c.apply_tree.result.freed.items
     (among-shown c.in_ok-room.room.below.items (numbered all) c.in_ok-room.room.shown.items (c.in_ok-room.ensures.shown (numbered all) stand.surfaces))
     (c.apply_tree.ensures.freed _ after.surfaces))
 

@@ -89,7 +89,7 @@ returns-then-not-is_synchronised-clause-changes g c = λ all number link is stan
     let told = rw states at c.apply_tree.ensures.told in
     let new = c.apply_tree.new.self in
     let e = c.apply_tree.ensures in
-    subst (λ b. IsToldUnless b c.args.child (with_link number (in_mode false) all) c.apply_tree.result.applied.changes.items)
+    subst (λ b. IsToldUnless b c.args.child (with_link number (in_mode false) all) c.apply_tree.result.changes.items)
     (sym (stays-so v.states v.family c.set_synchronised.new.self all number c.args.child link c.in_ok-room.room.below.items is stand
     links places stacks c.in_ok-room.ensures.those
     c.behaves_synchronised-was_synchronised.result c.behaves_synchronised-is_synchronised.result c.behaves_synchronised-was_synchronised.ensures c.behaves_synchronised-is_synchronised.ensures false
@@ -99,7 +99,7 @@ returns-then-not-is_synchronised-clause-changes g c = λ all number link is stan
     links places stacks c.in_ok-room.ensures.those)
     (unheld-those v.states v.family c.set_synchronised.new.self all number c.args.child link c.in_ok-room.room.below.items is stand
     links places stacks c.in_ok-room.ensures.those)
-    c.in_ok-room.room.changes.items c.apply_tree.result.applied.changes.items (c.in_ok-room.ensures.told ∙ c.new.ensures.items) c.in_ok-room.ensures.once (told (numbered all)
+    c.in_ok-room.room.changes.items c.apply_tree.result.changes.items (c.in_ok-room.ensures.told ∙ c.new.ensures.items) c.in_ok-room.ensures.once (told (numbered all)
     stand.surfaces c.in_ok-room.ensures.once))
 
 pub returns-then-not-is_synchronised-clause-freed : goal.returns-then-not-is_synchronised-clause-freed
@@ -116,13 +116,13 @@ returns-then-not-is_synchronised-clause-freed g c = λ all number link is stand.
     c.behaves_synchronised-was_synchronised.result c.behaves_synchronised-is_synchronised.result c.behaves_synchronised-was_synchronised.ensures c.behaves_synchronised-is_synchronised.ensures false
     (goes c.behaves_synchronised-was_synchronised.result c.behaves_synchronised-is_synchronised.result c.if-was_synchronised.true c.if-not-is_synchronised.true) in
     let after = subst (λ (a : Surfaces). Stand new.states new.family a) desync (returns-then-not-is_synchronised-clause-ok g c all number link is stand) in
-    subst (λ (a : Surfaces). AreFreed c.apply_tree.result.applied.freed.items (numbered all) (numbered a)) (sym desync)
+    subst (λ (a : Surfaces). AreFreed c.apply_tree.result.freed.items (numbered all) (numbered a)) (sym desync)
     (tree-freed v.states new.states c.set_synchronised.new.self new.family (with_link number (in_mode false) all) c.args.child c.in_ok-room.room.below.items
     (unheld-stands v.states v.family c.set_synchronised.new.self all number c.args.child link c.in_ok-room.room.below.items is stand
     links places stacks c.in_ok-room.ensures.those)
     (unheld-those v.states v.family c.set_synchronised.new.self all number c.args.child link c.in_ok-room.room.below.items is stand
     links places stacks c.in_ok-room.ensures.those)
-    (numbers_of (map buffer_of c.in_ok-room.room.shown.items)) c.apply_tree.result.applied.freed.items
+    (numbers_of (map buffer_of c.in_ok-room.room.shown.items)) c.apply_tree.result.freed.items
     (among-shown c.in_ok-room.room.below.items (numbered all) c.in_ok-room.room.shown.items (c.in_ok-room.ensures.shown (numbered all) stand.surfaces))
     (e.freed _ after.surfaces))
 
@@ -187,7 +187,7 @@ returns-clause-changes g c = λ all number link is stand.
           c.behaves_synchronised-is_synchronised.result w.if-not-is_synchronised.false
       | else-was_synchronised-via-else-was_synchronised w ↦ stays-before c.behaves_synchronised-was_synchronised.result c.behaves_synchronised-is_synchronised.result w.if-was_synchronised.false
     ] in
-    subst (λ b. IsToldUnless b c.args.child (with_link number (in_mode false) all) c.nothing-2.result.applied.changes.items)
+    subst (λ b. IsToldUnless b c.args.child (with_link number (in_mode false) all) c.nothing-2.result.changes.items)
     (sym (stays-so v.states v.family c.set_synchronised.new.self all number c.args.child link c.in_ok-room.room.below.items is stand
     links places stacks c.in_ok-room.ensures.those
     c.behaves_synchronised-was_synchronised.result c.behaves_synchronised-is_synchronised.result c.behaves_synchronised-was_synchronised.ensures
@@ -206,7 +206,7 @@ returns-clause-freed g c = λ all number link is stand.
           c.behaves_synchronised-is_synchronised.result w.if-not-is_synchronised.false
       | else-was_synchronised-via-else-was_synchronised w ↦ stays-before c.behaves_synchronised-was_synchronised.result c.behaves_synchronised-is_synchronised.result w.if-was_synchronised.false
     ] in
-    subst (λ (a : Surfaces). AreFreed c.nothing-2.result.applied.freed.items (numbered all) (numbered a))
+    subst (λ (a : Surfaces). AreFreed c.nothing-2.result.freed.items (numbered all) (numbered a))
     (sym (desynchronised-is v.states v.family c.set_synchronised.new.self all number c.args.child link c.in_ok-room.room.below.items is stand
     links places stacks c.in_ok-room.ensures.those
     c.behaves_synchronised-was_synchronised.result c.behaves_synchronised-is_synchronised.result c.behaves_synchronised-was_synchronised.ensures
