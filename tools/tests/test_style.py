@@ -13,12 +13,8 @@ PARAGRAPH = 5  # sentences at most, besides a question or a name in bold at its 
 LINE = 100  # columns at most
 DOCS = 28_000  # words of docs/ at most
 HEAVY = re.compile(r"\b(that which|so that of|as far as|such that)\b", re.IGNORECASE)
-# Pages that aren't rewritten yet. Who rewrites one takes it off.
-UNWRITTEN = {
-    "docs/PROTOCOL.md",
-}
 # Pages whose tables are looked up and not read: their words don't count.
-LOOKED_UP = {"docs/CLAUSES.md", "docs/DEFINITIONS.md"}
+LOOKED_UP = {"docs/CLAUSES.md", "docs/DEFINITIONS.md", "docs/PROTOCOL.md"}
 MADE = re.compile(r"(?ms)^<!-- made by .*?(?:^<!-- up to here -->$|\Z)")
 
 
@@ -81,17 +77,13 @@ def faults(text):
 class Style(unittest.TestCase):
     def test_pages(self):
         for name, text in pages().items():
-            if name not in UNWRITTEN:
-                with self.subTest(name):
-                    self.assertEqual([], faults(text), f"{name}: short sentences, short lines")
-
-    def test_pages_that_are_not_rewritten_are_there(self):
-        self.assertEqual(set(), UNWRITTEN - set(pages()), "pages that are gone are off the list")
+            with self.subTest(name):
+                self.assertEqual([], faults(text), f"{name}: short sentences, short lines")
 
     def test_docs_are_short(self):
         count = 0
         for name, text in pages().items():
-            if name.startswith("docs/") and name not in UNWRITTEN:
+            if name.startswith("docs/"):
                 count += sum(length(line) for line in MADE.sub("", text).splitlines() if name not in LOOKED_UP or not line.startswith("|"))
         self.assertLessEqual(count, DOCS, "words in docs/")
 
