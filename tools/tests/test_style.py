@@ -13,10 +13,6 @@ PARAGRAPH = 5  # sentences at most, besides a question or a name in bold at its 
 LINE = 100  # columns at most
 DOCS = 28_000  # words of docs/ at most
 HEAVY = re.compile(r"\b(that which|so that of|as far as|such that)\b", re.IGNORECASE)
-# Pages that aren't rewritten yet. Who rewrites one takes it off.
-UNWRITTEN = {
-    "docs/PROTOCOL.md",
-}
 # Crates, and files of crates, whose comments aren't rewritten yet, besides the crates for tests and for measuring.
 UNWRITTEN_SOURCES = {
     "wl_program",
@@ -26,7 +22,7 @@ UNWRITTEN_SOURCES = {
     "wl_surface",
 }
 # Pages whose tables are looked up and not read: their words don't count.
-LOOKED_UP = {"docs/CLAUSES.md", "docs/DEFINITIONS.md"}
+LOOKED_UP = {"docs/CLAUSES.md", "docs/DEFINITIONS.md", "docs/PROTOCOL.md"}
 COMMENT = re.compile(r"\s*//[/!]?(?: (.*))?$")
 MADE = re.compile(r"(?ms)^<!-- made by .*?(?:^<!-- up to here -->$|\Z)")
 
@@ -123,12 +119,8 @@ def faults_of_source(source):
 class Style(unittest.TestCase):
     def test_pages(self):
         for name, text in pages().items():
-            if name not in UNWRITTEN:
-                with self.subTest(name):
-                    self.assertEqual([], faults(text), f"{name}: short sentences, short lines")
-
-    def test_pages_that_are_not_rewritten_are_there(self):
-        self.assertEqual(set(), UNWRITTEN - set(pages()), "pages that are gone are off the list")
+            with self.subTest(name):
+                self.assertEqual([], faults(text), f"{name}: short sentences, short lines")
 
     def test_comments(self):
         for name, text in sources().items():
@@ -151,7 +143,7 @@ class Style(unittest.TestCase):
     def test_docs_are_short(self):
         count = 0
         for name, text in pages().items():
-            if name.startswith("docs/") and name not in UNWRITTEN:
+            if name.startswith("docs/"):
                 count += sum(length(line) for line in MADE.sub("", text).splitlines() if name not in LOOKED_UP or not line.startswith("|"))
         self.assertLessEqual(count, DOCS, "words in docs/")
 
