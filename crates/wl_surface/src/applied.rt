@@ -10,10 +10,11 @@ use crate::states::SurfaceNo;
 use std::alloc::Allocator;
 use wl_geom::Rect;
 
-/// What a call changed: the surfaces that it applied or took away, the buffers that aren't busy any more (wayland.xml,
-/// wl_buffer.release), and the callbacks that go with a surface. `shown` are the buffers that the surfaces which it applied, held or ended
-/// had applied and held before it, as they were attached. One that was shown more than once is there as often. Each freed buffer is among
-/// them.
+/// What a call changed: the surfaces that it applied or took away, the buffers that aren't busy any
+/// more (wayland.xml, wl_buffer.release), and the callbacks that go with a surface. `shown` are the
+/// buffers that its surfaces had applied and held before it, as they were attached. Its surfaces
+/// are those that it applied, held or ended. A buffer that was shown more than once is there as
+/// often. Each freed buffer is among them.
 #[derive(Drop)]
 pub struct Applied<A: Allocator> {
     pub changes: Vec<Change<A>, A>,
@@ -22,15 +23,16 @@ pub struct Applied<A: Allocator> {
     pub shown: Vec<Attached, A>,
 }
 
-/// A surface whose state was applied, or which is gone and showed a buffer. `rects` is the damage that was applied, that of the buffer too, in surface
-/// pixels, not cut to the surface; more than 1,024 rectangles damage all of it (wayland.xml, wl_surface.damage, damage_buffer).
+/// A surface whose state was applied, or which is gone and showed a buffer. `rects` is the damage
+/// that was applied, the buffer's too, in surface pixels and not cut to the surface. More than
+/// 1,024 rectangles damage all of it (wayland.xml, wl_surface.damage, damage_buffer).
 #[derive(Drop)]
 pub struct Change<A: Allocator> {
     pub surface: SurfaceNo,
     pub rects: Vec<Rect, A>,
 }
 
-/// The surface is applied, and what that changes.
+/// Applies the surface, and answers what that changes.
 pub(crate) fn apply_change<A: Allocator>(
     state: &mut SurfaceState<A>,
     surface: SurfaceNo,

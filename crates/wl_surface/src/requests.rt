@@ -25,7 +25,8 @@ use wl_geom::{Rect, Region};
 use wl_links::{Link, Placed};
 
 impl<A: Allocator + Copy> Surfaces<A> {
-    /// wl_compositor.create_surface: a surface of which nothing was asked, under a number that no other has. It has no links.
+    /// wl_compositor.create_surface: a surface of which nothing was asked, under a number that no
+    /// other has. It has no links.
     ///
     /// # Errors
     ///
@@ -52,7 +53,8 @@ impl<A: Allocator + Copy> Surfaces<A> {
         self.states.len()
     }
 
-    /// wl_surface.set_opaque_region of a copy of the region, in surface pixels, or of none: then no point is said to be opaque.
+    /// wl_surface.set_opaque_region of a copy of the region, in surface pixels, or of none: then no
+    /// point is said to be opaque.
     ///
     /// # Errors
     ///
@@ -74,7 +76,8 @@ impl<A: Allocator + Copy> Surfaces<A> {
         self.states.set_opaque(surface, region)
     }
 
-    /// wl_surface.set_input_region of a copy of the region, in surface pixels, or of none: then each point takes input.
+    /// wl_surface.set_input_region of a copy of the region, in surface pixels, or of none: then
+    /// each point takes input.
     ///
     /// # Errors
     ///
@@ -98,7 +101,8 @@ impl<A: Allocator + Copy> Surfaces<A> {
 }
 
 impl<A: Allocator> Surfaces<A> {
-    /// wl_surface.attach of a buffer, or of none, at this offset in pixels. It is pending until the next commit.
+    /// wl_surface.attach of a buffer, or of none, at this offset in pixels. It is pending until the
+    /// next commit.
     pub fn attach(&mut self, surface: SurfaceNo, buffer: Option<Attached>, x: i32, y: i32)
         ensures changes { Changes self.old.states self.new.states surface (asking (Attach (option_map buffer_of buffer) x y)) }
         ensures stand { (all : Asked) → Stand self.old.states self.old.family all
@@ -182,7 +186,8 @@ impl<A: Allocator> Surfaces<A> {
         self.states.set_transform(surface, transform)
     }
 
-    /// wl_surface.set_buffer_scale: so many pixels of the buffer, to the right and down, are one of the surface.
+    /// wl_surface.set_buffer_scale: so many pixels of the buffer, to the right and down, are one of
+    /// the surface.
     ///
     /// # Errors
     ///
@@ -219,8 +224,8 @@ impl<A: Allocator> Surfaces<A> {
         self.states.give_role(surface, role)
     }
 
-    /// Takes out the applied callback that was requested first, if there is one: it is answered at the next frame that is shown
-    /// (wayland.xml, wl_surface.frame).
+    /// Takes out the applied callback that was requested first, if there is one: it is answered at
+    /// the next frame that is shown (wayland.xml, wl_surface.frame).
     pub fn next_frame(&mut self) -> Option<u32>
         ensures next { result ≡ next_of self.old.states.frames }
         ensures frames { self.new.states.frames ≡ without_next self.old.states.frames }
@@ -248,8 +253,8 @@ impl<A: Allocator> Surfaces<A> {
         self.states.pending_buffer(surface)
     }
 
-    /// Whether the sides of the buffer that the next commit would show are multiples of the scale that it would have. They are without a
-    /// buffer, and where there is no surface of this number.
+    /// Whether the sides of the buffer that the next commit would show are multiples of the scale
+    /// that it would have. They are without a buffer, and where there is no surface of this number.
     pub fn is_whole(&self, surface: SurfaceNo) -> bool
         ensures { (all : Numbered) → StandForAll self.now.states all → result ≡ is_whole_at (all surface) }
     {
@@ -270,7 +275,8 @@ impl<A: Allocator> Surfaces<A> {
         self.states.has_content(surface)
     }
 
-    /// Whether a surface has the buffer held or applied: it is busy, and its client may not write to it (wayland.xml, wl_buffer.release).
+    /// Whether a surface has the buffer held or applied: it is busy, and its client may not write
+    /// to it (wayland.xml, wl_buffer.release).
     pub fn is_busy(&self, buffer: BufferNo) -> bool
         ensures { (all : Numbered) → StandForAll self.now.states all → IsAny (shows_at buffer) all result }
     {
@@ -305,7 +311,8 @@ impl<A: Allocator> Surfaces<A> {
         self.family.link(child)
     }
 
-    /// Whether there would be more than 16 levels below a root, were the child below the parent with its tree (wl_subcompositor.get_subsurface).
+    /// Whether there would be more than 16 levels below a root, were the child below the parent
+    /// with its tree (wl_subcompositor.get_subsurface).
     pub fn is_too_deep(&self, child: SurfaceNo, parent: SurfaceNo) -> bool
         ensures deep { IsTooDeep child parent (links_in self.now.family) result }
         ensures stand { HangTogether self.now.family }
@@ -320,14 +327,16 @@ impl<A: Allocator> Surfaces<A> {
         self.family.is_under(top, surface)
     }
 
-    /// Whether a surface behaves synchronised: it is a subsurface, and it or one of those above it is synchronised.
+    /// Whether a surface behaves synchronised: it is a subsurface, and it or one of those above it
+    /// is synchronised.
     pub(crate) fn behaves_synchronised(&self, surface: SurfaceNo) -> bool
         ensures { result ≡ behaves_synchronised 17 (links_in self.now.family) surface }
     {
         self.family.behaves_synchronised(surface)
     }
 
-    /// The root of a surface's tree: the surface that is reached by going from child to parent until there is no link.
+    /// The root of a surface's tree: the surface that is reached by going from child to parent
+    /// until there is no link.
     pub fn root(&self, surface: SurfaceNo) -> SurfaceNo
         ensures root { result ≡ root_by 16 (parents_of (links_in self.now.family)) surface }
         ensures none { links_in self.now.family result ≡ None }
@@ -335,8 +344,9 @@ impl<A: Allocator> Surfaces<A> {
         self.family.root(surface)
     }
 
-    /// The stack of a surface and its children from below, as applied. It is the whole stack, or nothing, which stands for a surface without
-    /// children. No others stand in it than children whose links live.
+    /// The stack of a surface and its children from below, as applied. It is the whole stack, or
+    /// nothing, which stands for a surface without children. No others stand in it than children
+    /// whose links live.
     pub fn stack(&self, surface: SurfaceNo) -> &[Placed]
         ensures stack { whole result.now ≡ (stacks_in self.now.family surface).applied }
         ensures stand { HangTogether self.now.family }

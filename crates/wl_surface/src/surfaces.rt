@@ -17,7 +17,8 @@ use std::alloc::Allocator;
 use std::marker::Model;
 use wl_links::{Family, PlaceError, Side};
 
-/// The surfaces of a client, and how they hang together: what is kept of each by itself, and of the links between them.
+/// The surfaces of a client, and how they hang together: what is kept of each by itself, and of the
+/// links between them.
 #[derive(Drop)]
 pub struct Surfaces<A: Allocator> {
     pub(crate) states: SurfaceStates<A>,
@@ -66,14 +67,16 @@ impl<A: Allocator + Copy> Surfaces<A> {
         }
     }
 
-    /// wl_subcompositor.get_subsurface: a link from a child to its parent. The child is a subsurface from now on, synchronised at first, and
-    /// topmost, at (0, 0), once the parent is committed and applied.
+    /// wl_subcompositor.get_subsurface: a link from a child to its parent. The child is a
+    /// subsurface from now on, synchronised at first, and topmost, at (0, 0), once the parent is
+    /// committed and applied.
     ///
     /// # Errors
     ///
-    /// In this order: `TooDeep` where there would be more than 16 levels below a root, `Role` where the child has another role or a link that
-    /// lives, `BadParent` where the parent is the child or descends from it, `Memory`. The first three change nothing. Without memory the
-    /// surfaces, links and stacks are the same; a place for either surface may stay in the family.
+    /// In this order: `TooDeep` where there would be more than 16 levels below a root, `Role` where
+    /// the child has another role or a link that lives, `BadParent` where the parent is the child
+    /// or descends from it, `Memory`. The first three change nothing. Without memory the surfaces,
+    /// links and stacks are the same; a place for either surface may stay in the family.
     pub fn subsurface(&mut self, child: SurfaceNo, parent: SurfaceNo) -> Result<(), SurfaceError>
         ensures ok { OnOk result ((all : Asked) (number : ℕ) → Stand self.old.states self.old.family all → link_at number all ≡ None
             → is_some (surface_at child all) ≡ true → is_some (surface_at parent all) ≡ true
@@ -99,7 +102,7 @@ impl<A: Allocator + Copy> Surfaces<A> {
         self.states.give_role(child, Role::Subsurface)
     }
 
-    /// Whether a surface has another role than that of a subsurface, or a link that lives.
+    /// Whether a surface has a role other than that of a subsurface, or a living link.
     fn is_taken(&self, child: SurfaceNo) -> bool
         ensures taken { (all : Asked) → Stand self.now.states self.now.family all → result ≡ is_taken all child }
         ensures free { result ≡ false → links_in self.now.family child ≡ None }
@@ -107,8 +110,9 @@ impl<A: Allocator + Copy> Surfaces<A> {
         is_other_role(self.role(child)) || self.link(child).is_some()
     }
 
-    /// wl_subsurface.set_position: once the parent is committed and applied, the child's upper left corner is so many pixels right and down
-    /// from the parent's. Nothing changes where the child has no link, nor without memory.
+    /// wl_subsurface.set_position: sets the place of the child's upper left corner, in pixels right
+    /// and down from the parent's. It counts once the parent is committed and applied. Nothing
+    /// changes without a link, nor without memory.
     pub fn set_position(&mut self, child: SurfaceNo, x: i32, y: i32) -> Result<(), SurfaceError>
         ensures ok { OnOk result ((all : Asked) (number : ℕ) (link : Link) → IsLink all number child link → Stand self.old.states self.old.family all
             → Stand self.new.states self.new.family (with_change link.parent (asking (SetPosition number x y)) all)) }
@@ -124,12 +128,14 @@ impl<A: Allocator + Copy> Surfaces<A> {
         Ok(())
     }
 
-    /// wl_subsurface.place_above and place_below: once the parent is committed and applied, the child stands right above or right below a
-    /// sibling, or the parent. Nothing changes where the child has no link.
+    /// wl_subsurface.place_above and place_below: the child stands right above or right below a
+    /// sibling or the parent. It counts once the parent is committed and applied. Without a link
+    /// nothing changes.
     ///
     /// # Errors
     ///
-    /// `NotSibling` where the other surface is neither the parent nor another child of it, or else `Memory`. Neither changes anything.
+    /// `NotSibling` if the other surface is neither the parent nor another child of it, else
+    /// `Memory`. Neither changes anything.
     pub fn place(
         &mut self,
         child: SurfaceNo,
@@ -182,7 +188,8 @@ impl<A: Allocator + Copy> Surfaces<A> {
         self.place(child, sibling, Side::Below)
     }
 
-    /// wl_subsurface.set_sync: the child's commits are held until its parent is applied. Nothing changes where it has no link.
+    /// wl_subsurface.set_sync: the child's commits are held until its parent is applied. Without a
+    /// link nothing changes.
     pub fn set_sync(&mut self, child: SurfaceNo)
         ensures stand { (all : Asked) (number : ℕ) (link : Link) → IsLink all number child link → Stand self.old.states self.old.family all
             → Stand self.new.states self.new.family (synchronised_in number all) }
