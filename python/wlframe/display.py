@@ -45,7 +45,7 @@ from wlframe.windows import Seen, Window
 START = 60.0  # seconds that server and bridge have to come up
 ANSWER = 60.0  # seconds that the server has to answer
 TICK = 0.1  # seconds between two looks at what has no descriptor to wait for
-PARTING = 0.5  # seconds that the end of a process may come behind that of its sockets
+PARTING = 5.0  # seconds that the end of a process may come behind that of its sockets
 BESIDE = "/usr/games:/usr/local/games:/usr/sbin:/usr/local/sbin"  # where programs are that aren't in everybody's PATH
 POPUP = ", or is drawn into its window, as GTK 3 draws popovers"  # why a menu may not be found
 READY = "bridge: clients find it by "
