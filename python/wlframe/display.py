@@ -128,7 +128,7 @@ class Display(Pointer, Typist, Expecting):
             (self.folder / "pools").mkdir()
             surroundings.write_settings(self.folder / "config")
             self.start_server(program)
-            self.start_bridge()
+            self.bridge = self.begin(self.bridge_words(), None, self.said)
             self.wait_up(self.connect, "the server")
             self.wait_up(lambda: self.is_ready, "the bridge")
             self.sync()
@@ -183,13 +183,13 @@ class Display(Pointer, Typist, Expecting):
             words += ["--record", folder / "recording" if self.record is True else os.path.abspath(self.record)]
         self.server = self.begin(words, self.told, self.server_said)
 
-    def start_bridge(self) -> None:
+    def bridge_words(self) -> list:
+        """The command of the bridge."""
         folder = self.folder
         words = [*command("bridge"), "--listen", folder / "wayland-0", "--server", folder / "server", "--dir", folder / "pools"]
         words += ["--windows", folder / "titles", "--keys", folder / KEYS, "--wait", str(START), *(["--fullscreen"] if self.fullscreen else [])]
         words += ["--viewer", folder / "viewer", "--view", folder / "view"] if self.is_shared else []
-        words += ["--trace", os.path.abspath(self.trace)] if self.trace else []
-        self.bridge = self.begin(words, None, self.said)
+        return words + (["--trace", os.path.abspath(self.trace)] if self.trace else [])
 
     def begin(self, words: list, told: Tail | None, said: Tail) -> Process:
         """Starts the server or the bridge. The server speaks for itself where this process echoes."""
