@@ -45,7 +45,7 @@ from wlframe.windows import Seen, Window
 START = 60.0  # seconds that server and bridge have to come up
 ANSWER = 60.0  # seconds that the server has to answer
 TICK = 0.1  # seconds between two looks at what has no descriptor to wait for
-PARTING = 0.5  # seconds that the end of a process may come behind that of its sockets
+PARTING = 5.0  # seconds that the end of a process may come behind that of its sockets
 BESIDE = "/usr/games:/usr/local/games:/usr/sbin:/usr/local/sbin"  # where programs are that aren't in everybody's PATH
 POPUP = ", or is drawn into its window, as GTK 3 draws popovers"  # why a menu may not be found
 READY = "bridge: clients find it by "
@@ -128,7 +128,7 @@ class Display(Pointer, Typist, Expecting):
             (self.folder / "pools").mkdir()
             surroundings.write_settings(self.folder / "config")
             self.start_server(program)
-            self.start_bridge()
+            self.bridge = self.begin(self.bridge_words(), None, self.said)
             self.wait_up(self.connect, "the server")
             self.wait_up(lambda: self.is_ready, "the bridge")
             self.sync()
@@ -183,13 +183,13 @@ class Display(Pointer, Typist, Expecting):
             words += ["--record", folder / "recording" if self.record is True else os.path.abspath(self.record)]
         self.server = self.begin(words, self.told, self.server_said)
 
-    def start_bridge(self) -> None:
+    def bridge_words(self) -> list:
+        """The command of the bridge."""
         folder = self.folder
         words = [*command("bridge"), "--listen", folder / "wayland-0", "--server", folder / "server", "--dir", folder / "pools"]
         words += ["--windows", folder / "titles", "--keys", folder / KEYS, "--wait", str(START), *(["--fullscreen"] if self.fullscreen else [])]
         words += ["--viewer", folder / "viewer", "--view", folder / "view"] if self.is_shared else []
-        words += ["--trace", os.path.abspath(self.trace)] if self.trace else []
-        self.bridge = self.begin(words, None, self.said)
+        return words + (["--trace", os.path.abspath(self.trace)] if self.trace else [])
 
     def begin(self, words: list, told: Tail | None, said: Tail) -> Process:
         """Starts the server or the bridge. The server speaks for itself where this process echoes."""

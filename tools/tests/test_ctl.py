@@ -55,18 +55,21 @@ class Controls(unittest.TestCase):
         done = subprocess.run(words, cwd=self.room, env={**self.environment, **(environment or {})}, capture_output=True, text=True, check=False, timeout=PATIENCE)
         return done.returncode, done.stdout, done.stderr
 
+    def shot(self, name, *words):
+        """The picture that `shot` writes."""
+        self.assertEqual(self.ctl("shot", name, *words), (0, "", ""))
+        return load(self.room / name)
+
     def test_points_waits_and_pictures(self):
         """All commands, one behind the other; the first waits for the window."""
         self.run_lamp("--after", "0.5")
         self.assertEqual(self.ctl("wait-window", "--title", "Lamp", "--timeout", "60"), (0, "32x24 at 0, 0\n", ""))
         self.assertEqual(self.ctl("wait-window", "--app-id", "org.example.lamp"), (0, "32x24 at 0, 0\n", ""))
         self.assertEqual(self.ctl("windows"), (0, '32x24 at 0, 0: toplevel "Lamp" org.example.lamp\n', ""))
-        self.assertEqual(self.ctl("shot", "dark.png"), (0, "", ""))
-        self.assertEqual(load(self.room / "dark.png").pixel(0, 0), DARK)
+        self.assertEqual(self.shot("dark.png").pixel(0, 0), DARK)
         self.assertEqual(self.ctl("click", "3", "4"), (0, "", ""))
+        wait_for(lambda: self.shot("red.png", "--window", "Lamp") == Picture(32, 24, bytes(RED) * 768), "the window isn't red")
         self.assertEqual(self.ctl("wait-idle", "--seconds", "0.3", "--timeout", "60"), (0, "", ""))
-        self.assertEqual(self.ctl("shot", "red.png", "--window", "Lamp"), (0, "", ""))
-        self.assertEqual(load(self.room / "red.png"), Picture(32, 24, bytes(RED) * 768))
         self.assertEqual(self.ctl("move", "5", "6", "--window", "Lamp"), (0, "", ""))
         self.assertEqual(self.ctl("drag", "1", "1", "9", "9", "--steps", "2", "--window", "Lamp"), (0, "", ""))
         self.assertEqual(self.ctl("drag", "1", "1", "9", "9"), (0, "", ""))

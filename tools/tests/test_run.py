@@ -18,7 +18,8 @@ from rig import TOOLS, program, wait_for  # pylint: disable=wrong-import-positio
 
 RED, GREEN, BLUE, BLACK = bytes.fromhex("ff0000"), bytes.fromhex("00ff00"), bytes.fromhex("0000ff"), b"\0\0\0"
 OUTPUT, WINDOW = (64, 48), (32, 24)  # WINDOW is painter.py's, which stands in the output's corner
-PATIENCE = 120
+PATIENCE = 120  # seconds
+LONG = "12"  # seconds in which a client shows something, also on a machine that does much else
 KEPT = "what it said stands above, and what it showed until then is kept"
 FULL = "run: /dev/full can't be written: No space left on device; make room there, or name another place"
 
@@ -99,7 +100,7 @@ class Runs(Tool):
         self.assertEqual(read(self.room / "shot.png"), expected(BLUE))
 
     def test_time_over(self):
-        done = self.paint("--seconds", "4", "--png", "shot.png", painter=["--then", "wait", "ff0000"])
+        done = self.paint("--seconds", LONG, "--png", "shot.png", painter=["--then", "wait", "ff0000"])
         self.assertEqual((done.returncode, done.stderr), (124, ""))
         self.assertEqual(read(self.room / "shot.png"), expected(RED))
 
@@ -185,8 +186,8 @@ class Runs(Tool):
     def test_idle_limit(self):
         """One that never rests is ended with a status of its own, but where what changes is ignored."""
         lamp = [sys.executable, HERE / "lamp.py", "--blink", "2,3,4,5"]
-        done = self.run_tool("--until-idle", "20000", "--idle-limit", "6", "--png", "shot.png", client=lamp)
-        self.expect(done, 123, f"run: {sys.executable} wasn't idle for 20000 milliseconds within 6 seconds")
+        done = self.run_tool("--until-idle", "20000", "--idle-limit", LONG, "--png", "shot.png", client=lamp)
+        self.expect(done, 123, f"run: {sys.executable} wasn't idle for 20000 milliseconds within {LONG} seconds")
         self.assertEqual(read(self.room / "shot.png").pixel(0, 0), (0, 0, 128))
         done = self.run_tool("--until-idle", "300", "--idle-limit", "60", "--ignore", "2,3,4,5", client=lamp)
         self.assertEqual((done.returncode, done.stderr), (0, ""))

@@ -115,6 +115,19 @@ class Vnc(Views):
             viewer.key(ord("ü"), is_down)
         display.wait_until(lambda: "key 26 with 0" in client.output, LONG, "no key came")
 
+    def test_port_that_somebody_else_takes(self):
+        """It was free as it was looked for, and isn't as wayvnc comes: the next is tried. One that was asked for has to be it."""
+        with socket.create_server((HOST, 0)) as other:
+            taken, found = other.getsockname()[1], view.free_port
+            late = [taken]
+            with unittest.mock.patch.object(view, "free_port", side_effect=lambda *asked: late.pop() if late else found(*asked)):
+                display, client, window = self.viewed()
+            port = self.port(display.viewed.address)
+            self.assertNotEqual(port, taken)
+            self.looks_points_and_types(display, client, window, self.viewer(Line(HOST, port)))
+            with self.assertRaisesRegex(wlframe.Failure, "^wayvnc ended with status 1: "):
+                self.viewed(port=taken)
+
     def test_two_views(self):
         one, two = self.display(view=True), self.display(view=True)
         self.assertNotEqual(one.viewed.address, two.viewed.address)

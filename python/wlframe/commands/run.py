@@ -48,7 +48,7 @@ from wlframe.view import View
 
 NAME = os.path.basename(sys.argv[0])
 NOT_IDLE, TIME_OVER, FAILED, NOT_STARTED, NOT_FOUND = 123, 124, 125, 126, 127
-PARTING = 0.5  # seconds that the server has to see that the client left
+PARTING = 2.0  # seconds that the server has to see that the client left
 TICK = 0.1  # seconds between two looks at the clock
 LATE = 0.05  # seconds that the report may come behind a frame
 BEHIND = 0.1  # seconds between two looks at where the windows are
