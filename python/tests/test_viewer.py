@@ -157,7 +157,7 @@ class Connects(unittest.TestCase):
             self.until(viewer, lambda: False)
 
     def test_nobody_there(self):
-        with self.assertRaisesRegex(Failure, "no server shows itself there"):
+        with self.assertRaisesRegex(Failure, "no viewer's socket of a server answers there"):
             Viewer(self.path)
 
 

@@ -67,7 +67,7 @@ class Lives(unittest.TestCase):
         living, said = rig.bridge, rig.said
         rig.said = rig.room / "said of the second"
         rig.begin_bridge()
-        self.expect_end(rig, 1, "bridge: wayland is there already: another bridge or compositor listens there")
+        self.expect_end(rig, 1, "bridge: wayland exists already: another bridge or compositor listens there")
         rig.bridge, rig.said = living, said
         with Client(rig.wayland) as client:
             client.begin()
