@@ -118,8 +118,7 @@ class Points(Displays):
         left, top = window.box[:2]
         display.click(left + 3, top + 4, count=3)
         display.wait_until(lambda: client.output.count("pressed") == 3, LONG, "three presses didn't come")
-        display.wait_until_idle(0.2, LONG)
-        self.assertEqual(display.picture().pixel(left, top), BLUE)
+        display.wait_for(lambda picture: picture.pixel(left, top) == BLUE, LONG)
         display.click(left, top, button="right")
         self.assertEqual(client.wait(LONG), 7)
         self.assertEqual(client.output.splitlines()[-2:], ["pressed 0x111 at 0, 0", "ends as it was told"])
@@ -187,7 +186,7 @@ class Waits(Displays):
             display.wait_until_idle(30, timeout=1)
         picture = display.wait_until_idle(0.3, LONG, ignore=[(x + 2, y + 3, 4, 5)])
         self.assertEqual(picture.pixel(x, y), DARK)
-        self.assertIn(picture.pixel(x + 2, y + 3), (WHITE, (128, 128, 128)))
+        self.assertGreaterEqual(min(picture.pixel(x + 2, y + 3)), 128)  # as each colour that it blinks in
 
     def test_nothing_shown(self):
         display = self.display()
@@ -408,6 +407,7 @@ class Keeps(Displays):
         self.assertFalse((self.room / "film.png").exists())
         display.keep_film(seconds=600)
         _, window = self.lamp(display)
+        display.wait_until_idle(0.1, LONG)  # pictures that stand for less than 33 ms aren't in it
         window.click(1, 1)
         display.wait_for_change(LONG)
         self.assertTrue(display.save_film(self.room / "film.png"))
