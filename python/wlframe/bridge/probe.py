@@ -79,7 +79,7 @@ class Probe:
     def take_until(self, done, until):
         """Takes events that come, and answers whether the one that is waited for is among them."""
         if not select.select([self.far], [], [], max(until - time.monotonic(), 0))[0]:
-            raise Fault(f"what listens at {self.path} gives no answer: is it `wlframe serve`?")
+            raise Fault(f"what listens at {self.path} gave no answer in {PATIENCE} seconds: is it `wlframe serve`, or is the machine too busy?")
         data = self.far.recv(65536)
         if not data:
             raise ConnectionResetError

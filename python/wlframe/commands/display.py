@@ -47,8 +47,9 @@ def asked_of():
     parser.add_argument("--control", required=True, metavar="PATH", help="make a socket there for tools/ctl")
     parser.add_argument("--size", type=size, default=(1024, 768), metavar="WxH", help="the sides in pixels (1024x768)")
     parser.add_argument("--rate", type=int, default=60, metavar="HZ", help="frames a second (60)")
-    for name, what in (("record", "write a recording of all that is served"), ("trace", "write each request and event in words"), ("program", "the program wlframe (that of WLFRAME, or the built one)")):
-        parser.add_argument(f"--{name}", metavar="FILE", help=what)
+    parser.add_argument("--record", metavar="FILE", help="write a recording of all that is served")
+    parser.add_argument("--trace", metavar="FILE", help="write each request and event in words")
+    parser.add_argument("--program", metavar="FILE", help="the program wlframe (that of WLFRAME, or the built one)")
     parser.add_argument("--fullscreen", action="store_true", help="ask clients to fill the output")
     parser.add_argument("--view", action="store_true", help="show it to VNC viewers and browsers")
     parser.add_argument("--password", metavar="FILE", help="take the view's password from its first line")
