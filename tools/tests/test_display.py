@@ -450,7 +450,7 @@ class Begins(Displays):
             with self.assertRaisesRegex(ValueError, "two sides from 1 to 4096"):
                 wlframe.Display(size=size)
         for rate in (0, 1001):
-            with self.assertRaisesRegex(ValueError, "from 1 to 1000 frames"):
+            with self.assertRaisesRegex(ValueError, "give 1 to 1000 frames"):
                 wlframe.Display(rate=rate)
 
     def test_not_started_or_closed(self):
