@@ -72,7 +72,7 @@ pub(crate) fn serve<'a, F: Files + Net + Clock + AllocGlobal, A: Allocator + Cop
     }
 }
 
-/// Makes the socket that a viewer connects to, if there is to be one.
+/// Makes the socket that a viewer connects to, where there is to be one.
 fn bind_viewer<F: Files + Net>(files: &F, path: Option<&str>) -> Result<Option<SocketHub>, Fault>
     ensures asked { IfOk result (λ hub. is_some hub ≡ is_some path.entry) }
     ensures bound { IfOk result (λ hub. IfSome hub (λ h. h ≡ 0)) }

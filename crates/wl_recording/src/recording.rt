@@ -125,7 +125,7 @@ impl<W: Write> Recording<W> {
         }
     }
 
-    /// Flushes what was written. An `Err` tells that a write failed.
+    /// What was written isn't held back any more. An `Err` tells that a write failed.
     pub fn flush(&mut self) -> io::Result<()>
         ensures written { OnOk result (Keeps (W.contents self.old.written.writer) (W.contents self.new.written.writer)) }
         ensures lines { self.new.written.lines ≡ self.old.written.lines }
