@@ -2,6 +2,7 @@
 //! report, and images.
 #![tactic(auto)]
 
+mod copies;
 mod differing;
 mod error;
 mod hex;
@@ -21,6 +22,7 @@ mod side;
 mod word;
 mod writing;
 
+pub use copies::Copies;
 pub use differing::difference;
 pub use error::{ReplayError, Summary};
 pub use image::write_image;

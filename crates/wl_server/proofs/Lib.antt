@@ -1,4 +1,5 @@
 pub mod Frames
+pub mod Histories
 pub mod Joining
 pub mod Listed
 pub mod Pieces

@@ -11,10 +11,10 @@ use Rattle.wl_session.specs.Image.{image_of}
 use Rattle.wl_recording.specs.Images.{images_in}
 use Rattle.wl_server.specs.Watching.{RefreshesPlace, Shows}
 use Rattle.wl_server.proofs.Telling.{Tells-one, ok-kept, on-ok-kept, painted-none, painted-some}
-use Rattle.wl_server.proofs.viewed.show_viewed.Goals as goal
+use Rattle.wl_server.proofs.viewed.show_viewed_frame.Goals as goal
 
-pub returns-then-count-eq0 : goal.returns-then-count-eq0
-returns-then-count-eq0 g c =
+pub returns-then-count-eq0-clause-told : goal.returns-then-count-eq0-clause-told
+returns-then-count-eq0-clause-told g c =
     let damage = c.tick-frame.ensures.damage in
     let next = c.tick-frame.follows.holds-at-none in
     let counts = c.count-count.ensures ∙ ap (λ (m : Damaged). count_points m.width m.height (has m)) damage in
@@ -29,8 +29,8 @@ returns-then-count-eq0 g c =
           )),
     )
 
-pub returns : goal.returns
-returns g c =
+pub returns-clause-told : goal.returns-clause-told
+returns-clause-told g c =
     let wrote = ok-kept c.write_frame.result c.map_err.result _ _ c.write_frame.ensures c.map_err.ensures.variant c.in_ok-map_err.was in
     let damage = c.tick-frame.ensures.damage in
     let next = c.tick-frame.follows.holds-at-none in
@@ -53,3 +53,12 @@ returns g c =
     ))
     c.write_image.ensures)
     c.map_err-2.ensures.variant
+
+pub returns-then-count-eq0-clause-course : goal.returns-then-count-eq0-clause-course
+returns-then-count-eq0-clause-course g c = c.tick-frame.follows.holds-at-none.2
+
+pub returns-in_err-map_err-clause-course : goal.returns-in_err-map_err-clause-course
+returns-in_err-map_err-clause-course g c = c.tick-frame.follows.holds-at-none.2
+
+pub returns-clause-course : goal.returns-clause-course
+returns-clause-course g c = c.tick-frame.follows.holds-at-none.2

@@ -12,7 +12,7 @@ use Rattle.wl_server.specs.Phases.{Shows}
 use Rattle.wl_server.proofs.Taking.{Takes-one}
 use Rattle.wl_recording.specs.Images.{images_in}
 use Rattle.wl_server.proofs.Telling.{Tells-one, ok-kept, on-ok-kept, painted-none, painted-some}
-use Rattle.wl_server.proofs.showing.show.Goals as goal
+use Rattle.wl_server.proofs.showing.show_frame.Goals as goal
 
 pub returns-then-count-eq0-clause-taken : goal.returns-then-count-eq0-clause-taken
 returns-then-count-eq0-clause-taken g c = Takes-one (Shows c.args.time) _ _ _ _ c.tick-frame.follows.holds-at-none.2 (λ d e es agrees parts. refl)
@@ -22,6 +22,15 @@ returns-in_err-map_err-clause-taken g c = Takes-one (Shows c.args.time) _ _ _ _ 
 
 pub returns-clause-taken : goal.returns-clause-taken
 returns-clause-taken g c = Takes-one (Shows c.args.time) _ _ _ _ c.tick-frame.follows.holds-at-none.2 (λ d e es agrees parts. refl)
+
+pub returns-then-count-eq0-clause-course : goal.returns-then-count-eq0-clause-course
+returns-then-count-eq0-clause-course g c = c.tick-frame.follows.holds-at-none.2
+
+pub returns-in_err-map_err-clause-course : goal.returns-in_err-map_err-clause-course
+returns-in_err-map_err-clause-course g c = c.tick-frame.follows.holds-at-none.2
+
+pub returns-clause-course : goal.returns-clause-course
+returns-clause-course g c = c.tick-frame.follows.holds-at-none.2
 
 -- ---- what is told
 
