@@ -18,12 +18,7 @@ pub(crate) type Served<H, S> = Service<Global, Vec<u8>, H, S>;
 /// A session before its first turn, without pointer lines. None where there is no memory for it.
 pub(crate) fn served<H: Drop, S: Drop>(alloc: Global, hub: H, side: S) -> Option<Served<H, S>> {
     let session = Session::new(alloc, CONFIG).ok()?;
-    Some(Service::new(
-        Recorded::without(session),
-        hub,
-        side,
-        Vec::new(alloc),
-    ))
+    Some(Service::new(Recorded::without(session), hub, side, Vec::new(alloc)))
 }
 
 /// Whether these turns were taken, from the one up to the other, without images.

@@ -37,8 +37,8 @@ const TOLD: &[u8] = b"client 1\nframe 1 2\n";
 
 /// Takes so many bytes, and then fails.
 #[derive(Drop)]
-struct Failing {
-    room: usize,
+pub(crate) struct Failing {
+    pub(crate) room: usize,
 }
 
 impl Write for Failing {
@@ -72,12 +72,7 @@ fn takes<W: Write, P: Write>(
         name: "2.1",
         opened: 0,
     };
-    let mut service = Service::new(
-        Recorded::without(session),
-        hub,
-        side,
-        Vec::new(alloc),
-    );
+    let mut service = Service::new(Recorded::without(session), hub, side, Vec::new(alloc));
     let mut connections = Connections::new();
     for time in 1..turns.saturating_add(1) {
         let answer = turn(&mut service, &mut connections, time, report, ppm);

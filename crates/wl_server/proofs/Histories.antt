@@ -1,7 +1,7 @@
 -- A recording goes on with its session.
-use Rattle.std.proofs.Common.{◌≡◌, ◌+◌, ◌∙◌, ℕ, zero, suc, Bool, true, false, List, [], ◌∷◌, ◌++◌, Option, Some, None, refl, ap, sym, subst, append-nil}
+use Rattle.std.proofs.Common.{◌≡◌, ◌+◌, ◌∙◌, ℕ, zero, suc, Bool, true, false, List, [], ◌∷◌, ◌++◌, Option, Some, None, Ok, Err, refl, ap, sym, subst, append-nil}
 use Rattle.std.proofs.lemmas.Bool.{OnFalse_from}
-use Rattle.std.specs.Prelude.{replicate}
+use Rattle.std.specs.Prelude.{OnOk, Result, replicate}
 use Rattle.std.proofs.KnownBytes.{Appends-nil}
 use Rattle.spec_desktop.specs.Act.{Act}
 use Rattle.spec_desktop.specs.Desktop.{Desktop, empty}
@@ -22,6 +22,10 @@ looked-more : {W : Type 0} (contents : W → Option (List ℕ)) (first : Option 
     → HoldsNotes contents first (looked_up_to 32 d (looked n d notes)) r → HoldsNotes contents first (looked (suc n) d notes) r
 unfolding looked
 looked-more contents first n d notes r holds = holds
+
+pub on-ok : {T E P : Type 0} (r : Result T E) → P → OnOk r P
+on-ok (Ok x) p = p
+on-ok (Err e) p = tt
 
 -- ---- a session goes on by an act, which is noted
 
@@ -70,8 +74,19 @@ recorded-quiet contents act done old new r s is looks quiet takes = recorded-on 
 
 flushed-by : {W : Type 0} (contents : W → Option (List ℕ)) (v : SessionView) (r s t : Recorded W)
     → IsRecordedBy contents v r → Looks contents v r s → Flushes contents s t → IsRecordedBy contents v t
-flushed-by contents v r s t was looks flushes = record was {
+flushed-by contents v r s t was looks flushes = record {
+  width = was.width;
+  height = was.height;
+  start = was.start;
+  begun = was.begun;
+  acts = was.acts;
+  events = was.events;
+  notes = was.notes;
+  desktop = was.desktop;
+  history = was.history;
+  agrees = was.agrees;
   looks = suc was.looks;
+  first = was.first;
   holds = flushes was.first (looked (suc was.looks) was.desktop was.notes)
       (looked-more contents was.first was.looks was.desktop was.notes s (looks was.desktop was.agrees was.first (looked was.looks was.desktop was.notes) was.holds));
 }

@@ -1,5 +1,5 @@
 -- The recording of what was asked of a session: which lines stand in it.
-use Rattle.std.specs.Prelude.{ℕ, zero, suc, ◌≡◌, ◌+◌, ◌^◌, ⊤, Bool, true, false, if◌then◌else◌, nat_lt, List, [], ◌∷◌, ◌++◌, length, replicate}
+use Rattle.std.specs.Prelude.{ℕ, zero, suc, ◌≡◌, ◌+◌, ◌^◌, ⊤, Bool, true, false, nat_lt, List, [], ◌∷◌, ◌++◌, length, replicate}
 use Rattle.std.specs.Prelude.{Option, Some, None, Ok}
 use Rattle.spec_desktop.specs.Act.{Act, Connect, Feed, Store, Leave, Tick, Send, Close, Motion, Button, peer_at, status_of}
 use Rattle.spec_desktop.specs.Desktop.{Desktop, empty}
@@ -8,7 +8,6 @@ use Rattle.spec_desktop.specs.declared.answers.Done.{Done}
 use Rattle.spec_desktop.specs.declared.answers.Done.TheVariants as gave
 use Rattle.spec_desktop.specs.declared.answers.Fed.{Fed}
 use Rattle.spec_desktop.specs.declared.answers.Fed.TheVariants.{Alive, Ended, NoClient}
-use Rattle.spec_desktop.specs.declared.answers.Stored.{Stored}
 use Rattle.spec_desktop.specs.declared.answers.Stored.TheVariants as stored
 use Rattle.spec_desktop.specs.declared.cause.Cause.{Cause}
 use Rattle.spec_desktop.specs.declared.cause.Cause.TheVariants as cause
@@ -71,12 +70,14 @@ abbrev pub NotesConnected : Done → Notes → Notes → Type 0
 NotesConnected (gave.Connect (Ok client)) from to = to ≡ record { asked = from.asked ++ line.Connect ∷ []; clients = joined client from.clients }
 NotesConnected done from to = to ≡ from
 
--- bytes that came into a store, of which none passes the greatest number
+-- bytes that came into a store
+abbrev pub NotesPut : Bool → Place → List ℕ → Notes → Notes → Type 0
+NotesPut true place bytes from to = (more : List Asked) × Puts (number_of place.client from.clients) place bytes more × (to ≡ with_lines more from)
+NotesPut false place bytes from to = to ≡ from
+
+-- the same of bytes that may have come there; a store ends before its byte 2^32
 abbrev pub NotesStored : Done → Place → List ℕ → Notes → Notes → Type 0
-NotesStored (gave.Store stored.Done) place bytes from to =
-    if nat_lt (place.at + length bytes) (2 ^ 32)
-    then ((more : List Asked) × Puts (number_of place.client from.clients) place bytes more × (to ≡ with_lines more from))
-    else (to ≡ from)
+NotesStored (gave.Store stored.Done) place bytes from to = NotesPut (nat_lt (place.at + length bytes) (2 ^ 32)) place bytes from to
 NotesStored done place bytes from to = to ≡ from
 
 -- What is noted of an act, by its answer: nothing of bytes that were sent, and of a number that is given back.
@@ -165,3 +166,7 @@ Flushes contents old new =
 abbrev pub IsWhole : {W : Type 0} → Option (Recorded W) → Type 0
 IsWhole None = ⊤
 IsWhole (Some recording) = recording.has_failed ≡ false
+
+-- what was asked is recorded, and no write failed
+abbrev pub IsAllRecorded : {W : Type 0} → (W → Option (List ℕ)) → SessionView → Option (Recorded W) → Type 0
+IsAllRecorded contents session recording = IsRecorded contents session recording × IsWhole recording

@@ -102,7 +102,7 @@ fn fill_stores<A: Allocator + Copy, R: Write, S: SideFiles>(
     ensures { Takes (FillsStores (files_of S.opens S.gives S.fault_count) client number side.old side.new) recorded.old.session recorded.new.session }
 {
     let mut last = 0;
-    while let Some(store) = recorded.session.next_store(client, last) {
+    while let Some(store) = recorded.next_store(client, last) {
         let target = Target {
             client,
             number,
@@ -123,7 +123,7 @@ fn fill_store<A: Allocator + Copy, R: Write, S: SideFiles>(
     requires { length buf.old ≡ 4096 }
     ensures { Takes (Puts (files_of S.opens S.gives S.fault_count) target.client target.number target.store side.old side.new) recorded.old.session recorded.new.session }
 {
-    if let Some(size) = recorded.session.store_size(target.client, target.store) {
+    if let Some(size) = recorded.store_size(target.client, target.store) {
         fill_part(recorded, target, 0, 0, size, side, buf);
     }
 }
@@ -221,7 +221,7 @@ fn fill_range<A: Allocator + Copy, R: Write, S: SideFiles>(
         number,
         store: range.store,
     };
-    if let Some(size) = recorded.session.store_size(client, range.store) {
+    if let Some(size) = recorded.store_size(client, range.store) {
         let most = range.len.min(size.saturating_sub(range.at));
         fill_part(recorded, target, range.from, range.at, most, side, buf);
     }

@@ -3,7 +3,9 @@
 ghost use Rattle.std.specs.Prelude.{◌≡◌, ◌≤◌, ℕ, List, Option, OnOk, length};
 ghost use Rattle.spec_desktop.specs.Act.{Button, Connect, Feed, Leave, Motion, Store, Tick};
 ghost use Rattle.spec_desktop.specs.declared.answers.Done.{Done};
-ghost use Rattle.wl_server.specs.Recorded.{Flushes, HoldsNotes, IsWhole, Looks, Notes, NotesOf, OnBoth, looked_at};
+ghost use Rattle.spec_desktop.specs.declared.answers.Fed.{Fed};
+ghost use Rattle.spec_desktop.specs.declared.answers.Stored.{Stored};
+ghost use Rattle.wl_server.specs.Recorded.{Flushes, HoldsNotes, IsWhole, Looks, Notes, NotesOf, OnBoth, looked_at, outlasts};
 
 use crate::error::{TurnError, write_failed};
 use std::alloc::Allocator;
@@ -23,10 +25,7 @@ pub(crate) fn settle<A: Allocator + Copy, R: Write>(
     }
 }
 
-fn look_at_all<A: Allocator + Copy, R: Write>(
-    recording: &mut Recording<A, R>,
-    session: &Session<A>,
-)
+fn look_at_all<A: Allocator + Copy, R: Write>(recording: &mut Recording<A, R>, session: &Session<A>)
     ensures { Looks R.contents session.now recording.old recording.new }
 {
     for place in 0..MAX_CLIENTS {
@@ -35,7 +34,7 @@ fn look_at_all<A: Allocator + Copy, R: Write>(
     }
 }
 
-/// Who ended has no number there any more. Where a replay wouldn't end it, it goes.
+/// Who ended has no number there any more.
 fn look_at<A: Allocator + Copy, R: Write>(
     recording: &mut Recording<A, R>,
     client: ClientNo,
@@ -46,11 +45,35 @@ fn look_at<A: Allocator + Copy, R: Write>(
 {
     match status {
         Fed::Alive => {}
-        Fed::Ended(Cause::Slow | Cause::Memory) => {
-            recording.gone(client);
-            recording.leave(client);
-        }
-        Fed::Ended(Cause::Gone | Cause::Protocol { .. }) | Fed::NoClient => recording.leave(client),
+        Fed::Ended(cause) => end_there(recording, client, cause),
+        Fed::NoClient => recording.leave(client),
+    }
+}
+
+/// Who ended for this cause has no number there any more. Where a replay wouldn't end it, it goes.
+fn end_there<A: Allocator + Copy, R: Write>(
+    recording: &mut Recording<A, R>,
+    client: ClientNo,
+    cause: Cause,
+)
+    ensures { (first : Option (List ℕ)) (notes : Notes) → HoldsNotes R.contents first notes recording.old
+        → HoldsNotes R.contents first (looked_at client (Fed.Ended cause) notes) recording.new }
+{
+    if outlasts(cause) {
+        recording.gone(client);
+        recording.leave(client);
+    } else {
+        recording.leave(client);
+    }
+}
+
+/// Whether a replay doesn't end a client for this cause: it takes all bytes that wait after each line, and has memory.
+fn outlasts(cause: Cause) -> bool
+    ensures { result ≡ outlasts cause }
+{
+    match cause {
+        Cause::Slow | Cause::Memory => true,
+        Cause::Gone | Cause::Protocol { .. } => false,
     }
 }
 
@@ -91,9 +114,19 @@ pub(crate) fn note_connect<A: Allocator + Copy, R: Write>(
     ensures { OnBoth (NotesOf R.contents Connect (Done.Connect connected)) recording.old recording.new }
 {
     if let Some(recording) = recording {
-        if let Ok(client) = connected {
-            recording.connect(client);
-        }
+        note_connected(recording, connected);
+    }
+}
+
+fn note_connected<A: Allocator + Copy, R: Write>(
+    recording: &mut Recording<A, R>,
+    connected: Result<ClientNo, ConnectError>,
+)
+    ensures { NotesOf R.contents Connect (Done.Connect connected) recording.old recording.new }
+{
+    match connected {
+        Ok(client) => recording.connect(client),
+        Err(_) => {}
     }
 }
 
@@ -121,10 +154,24 @@ pub(crate) fn note_stored<A: Allocator + Copy, R: Write>(
     ensures { OnBoth (NotesOf R.contents (Store place.now.client place.now.store place.now.at bytes.now) (Done.Store stored)) recording.old recording.new }
 {
     if let Some(recording) = recording {
-        match stored {
-            Stored::Done => note_put(recording, place, bytes),
-            Stored::NoClient | Stored::NoStore | Stored::OutOfRange => {}
-        }
+        note_put_if(recording, place, bytes, stored);
+    }
+}
+
+fn note_put_if<A: Allocator + Copy, R: Write>(
+    recording: &mut Recording<A, R>,
+    place: &Place,
+    bytes: &[u8],
+    stored: Stored,
+)
+    requires { length bytes.now ≤ 4096 }
+    ensures { NotesOf R.contents (Store place.now.client place.now.store place.now.at bytes.now) (Done.Store stored) recording.old recording.new }
+{
+    match stored {
+        Stored::Done => note_put(recording, place, bytes),
+        Stored::NoClient => {}
+        Stored::NoStore => {}
+        Stored::OutOfRange => {}
     }
 }
 
@@ -136,7 +183,8 @@ fn note_put<A: Allocator + Copy, R: Write>(
     requires { length bytes.now ≤ 4096 }
     ensures { NotesOf R.contents (Store place.now.client place.now.store place.now.at bytes.now) (Done.Store Stored.Done) recording.old recording.new }
 {
-    if place.at.checked_add(bytes.len() as u32).is_some() {
+    let room = (u32::MAX - place.at) as usize;
+    if bytes.len() <= room {
         recording.store(place, bytes);
     }
 }

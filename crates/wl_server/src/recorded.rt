@@ -1,9 +1,10 @@
 //! A session, and the recording of what is asked of it.
 
-ghost use Rattle.std.specs.Prelude.{◌≡◌, ◌≤◌, ℕ, None, OnErr, OnOk, length};
-ghost use Rattle.spec_desktop.specs.Act.{Button, Close, Connect, Feed, Leave, Motion, Send, Store};
+ghost use Rattle.std.specs.Prelude.{◌≡◌, ◌<◌, ◌≤◌, ℕ, IfSome, None, OnErr, OnOk, length};
+ghost use Rattle.spec_desktop.specs.Act.{Button, Close, Connect, Feed, Leave, Motion, Send, Store, peer_at, store_size_of};
 ghost use Rattle.spec_desktop.specs.declared.answers.Done.{Done};
 ghost use Rattle.wl_session.specs.Course.{TakesCourse};
+ghost use Rattle.wl_session.specs.NextStore.{next_store_of};
 
 use crate::error::TurnError;
 use crate::noting::{
@@ -37,9 +38,9 @@ impl<A: Allocator, R: Write> Model for Recorded<A, R> {
 }
 
 impl<A: Allocator + Copy, R: Write> Recorded<A, R> {
-    ghost use Rattle.spec_desktop.specs.Desktop.{empty};
+    ghost use Rattle.spec_desktop.specs.Desktop.{Desktop, empty};
     ghost use Rattle.wl_server.specs.Agreeing.{Agrees};
-    ghost use Rattle.wl_server.specs.Recorded.{IsRecorded, IsWhole};
+    ghost use Rattle.wl_server.specs.Recorded.{IsAllRecorded, IsRecorded};
 
     /// A session that isn't recorded. It takes no memory.
     pub fn without(session: Session<A>) -> Recorded<A, R>
@@ -65,7 +66,24 @@ impl<A: Allocator + Copy, R: Write> Recorded<A, R> {
     /// What was asked since the session began stands in the recording, in order, if there is one, and no write failed.
     pub fn is_recorded(&self)
         ensures { IsRecorded R.contents self.now.session self.now.recording }
-    {}
+    {
+        let _recording = &self.recording;
+    }
+
+    /// How many bytes a client's store has. None where the client or the store isn't live.
+    pub(crate) fn store_size(&self, client: ClientNo, store: StoreNo) -> Option<u32>
+        ensures { (d : Desktop) → Agrees self.now.session.desk d → result ≡ store_size_of store (peer_at client d) }
+    {
+        self.session.store_size(client, store)
+    }
+
+    /// The least number of a client's live store that is above this one. None where there is none.
+    pub(crate) fn next_store(&self, client: ClientNo, number: StoreNo) -> Option<StoreNo>
+        ensures next { (d : Desktop) → Agrees self.now.session.desk d → result ≡ next_store_of number (peer_at client d) }
+        ensures rises { IfSome result (λ next. number < next) }
+    {
+        self.session.next_store(client, number)
+    }
 
     /// A client connects.
     pub(crate) fn connect(&mut self) -> Result<ClientNo, ConnectError>
@@ -160,7 +178,7 @@ impl<A: Allocator + Copy, R: Write> Recorded<A, R> {
     /// What was written isn't held back any more. `Write` is answered where a write failed.
     pub(crate) fn flush(&mut self) -> Result<(), TurnError>
         ensures kept { self.new.session ≡ self.old.session }
-        ensures whole { OnOk result (IsWhole self.new.recording) }
+        ensures recorded { OnOk result (IsAllRecorded R.contents self.new.session self.new.recording) }
     {
         settle(&mut self.recording, &self.session);
         flush_recording(&mut self.recording)

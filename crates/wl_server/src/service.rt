@@ -91,8 +91,7 @@ pub fn turn<A: Allocator + Copy, R: Write, H: Hub, S: SideFiles, W: Write, P: Wr
     ensures waiting { service.new.waiting ≡ left_at time service.old.waiting }
 {
     point_all(&mut service.recorded, &mut service.waiting, time);
-    take_phases(service, connections, time, report, ppm)?;
-    service.recorded.flush()
+    take_phases(service, connections, time, report, ppm)
 }
 
 /// Serves the clients: the phases of a turn, but that of the pointer's lines.
@@ -153,7 +152,7 @@ pub fn turn_viewed<A: Allocator + Copy, R: Write, H: Hub, S: SideFiles, V: Hub, 
         &mut service.recorded,
         time,
     );
-    service.recorded.flush()
+    Ok(())
 }
 
 /// Serves the clients, and the viewer is told of the frame: the phases of a turn, but those of the pointer's lines and of the viewer's connection.

@@ -58,8 +58,7 @@ pub fn shared_turn<
     ensures waiting { service.new.waiting ≡ left_at time service.old.waiting }
 {
     point_all(&mut service.recorded, &mut service.waiting, time);
-    take_phases(shares, service, connections, time, report, ppm)?;
-    service.recorded.flush()
+    take_phases(shares, service, connections, time, report, ppm)
 }
 
 /// Serves the clients: the phases of a turn, but that of the pointer's lines.
@@ -122,7 +121,7 @@ pub fn shared_turn_viewed<
         &mut service.recorded,
         time,
     );
-    service.recorded.flush()
+    Ok(())
 }
 
 /// Serves the clients, and the viewer is told of the frame: the phases of a turn, but those of the pointer's lines and of the viewer's connection.

@@ -41,9 +41,7 @@ pub fn short_turn<A: Allocator + Copy, R: Write, H: Hub, S: SideFiles, K: Clock,
         (λ events. ⊤) service.old.recorded.session service.new.recorded.session }
     ensures waiting { service.new.waiting ≡ service.old.waiting }
 {
-    let is_busy = serve_between(shares, service, connections, report)?;
-    service.recorded.flush()?;
-    Ok(is_busy)
+    serve_between(shares, service, connections, report)
 }
 
 /// Takes a short turn as [`short_turn`] does, with a viewer: first the viewer is written to and read, and the pointer does what its lines ask, at this
@@ -80,7 +78,6 @@ pub fn short_turn_viewed<
     let owed = owed_bytes(viewing);
     hear(viewing, &mut service.recorded, time);
     let is_busy = serve_between(shares, service, connections, report)?;
-    service.recorded.flush()?;
     Ok(is_busy || owed_bytes(viewing) != owed)
 }
 

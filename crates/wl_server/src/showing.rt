@@ -9,6 +9,7 @@ ghost use Rattle.wl_session.specs.Image.{image_of};
 ghost use Rattle.wl_server.specs.Acting.{Takes};
 ghost use Rattle.wl_server.specs.Phases.{Shows};
 ghost use Rattle.wl_recording.specs.Images.{images_in};
+ghost use Rattle.wl_server.specs.Recorded.{IsAllRecorded};
 ghost use Rattle.wl_server.specs.Telling.{Tells};
 
 use crate::error::{TurnError, write_failed};
@@ -19,7 +20,7 @@ use std::io::Write;
 use wl_recording::{write_frame, write_image};
 use wl_session::Session;
 
-/// Shows a frame at this time, which is recorded, and tells of it where something was damaged.
+/// Shows a frame at this time, which is recorded, and tells of it where something was damaged. What is recorded up to it isn't held back.
 pub(crate) fn show<A: Allocator + Copy, R: Write, W: Write, P: Write>(
     recorded: &mut Recorded<A, R>,
     time: u32,
@@ -29,10 +30,12 @@ pub(crate) fn show<A: Allocator + Copy, R: Write, W: Write, P: Write>(
     ensures taken { Takes (Shows time) recorded.old.session recorded.new.session }
     ensures told { OnOk result (Tells (Shows time) recorded.old.session recorded.new.session (W.contents report.old) (W.contents report.new)
         (images_in P.contents ppm.old) (images_in P.contents ppm.new)) }
+    ensures recorded { OnOk result (IsAllRecorded R.contents recorded.new.session recorded.new.recording) }
 {
     settle(&mut recorded.recording, &recorded.session);
     note_tick(&mut recorded.recording, time);
-    show_frame(&mut recorded.session, time, report, ppm)
+    show_frame(&mut recorded.session, time, report, ppm)?;
+    recorded.flush()
 }
 
 /// Shows a frame at this time, and tells of it where something was damaged.

@@ -6,6 +6,7 @@ ghost use Rattle.spec_desktop.specs.Act.{Tick};
 ghost use Rattle.spec_desktop.specs.declared.answers.Done.{Done};
 ghost use Rattle.wl_recording.specs.Images.{images_in};
 ghost use Rattle.wl_server.specs.Acting.{Takes, Then};
+ghost use Rattle.wl_server.specs.Recorded.{IsAllRecorded};
 ghost use Rattle.wl_server.specs.Telling.{Tells};
 ghost use Rattle.wl_server.specs.Watching.{Answers, IfWatched, Refreshes, RefreshesPlace, Shows, TellsOf, Answering, Writing, Writes, answers, lines_of, windows_text};
 ghost use Rattle.wl_server.specs.Ways.{ways};
@@ -35,12 +36,14 @@ pub(crate) fn show_viewed<A: Allocator + Copy, R: Write, C: Drop, W: Write, P: W
     report: &mut W,
     ppm: &mut Option<P>,
 ) -> Result<(), TurnError>
-    ensures { OnOk result ((update : Option Update) × Tells (Shows time update place.old place.new) recorded.old.session recorded.new.session
+    ensures told { OnOk result ((update : Option Update) × Tells (Shows time update place.old place.new) recorded.old.session recorded.new.session
         (W.contents report.old) (W.contents report.new) (images_in P.contents ppm.old) (images_in P.contents ppm.new)) }
+    ensures recorded { OnOk result (IsAllRecorded R.contents recorded.new.session recorded.new.recording) }
 {
     settle(&mut recorded.recording, &recorded.session);
     note_tick(&mut recorded.recording, time);
-    show_viewed_frame(&mut recorded.session, place, time, report, ppm)
+    show_viewed_frame(&mut recorded.session, place, time, report, ppm)?;
+    recorded.flush()
 }
 
 /// Shows a frame at this time, of which the viewer is told, and tells of it where something was damaged.

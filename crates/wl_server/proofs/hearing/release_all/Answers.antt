@@ -8,7 +8,7 @@ loop-code-init g c = released-none c.args.time c.args.buttons.now c.args.recorde
 
 pub loop-code-preserved : goal.loop-code-preserved
 loop-code-preserved g c =
-    released-more c.args.time c.args.buttons.now _ _ _ c.args.recorded.now.session c.loop-code.recorded.session c.button.new.self
+    released-more c.args.time c.args.buttons.now _ _ _ c.args.recorded.now.session c.loop-code.recorded.session c.button.new.self.session
     (drop_more c.args.buttons.now c.loop-code.code-index 0 (omega arith)) c.button.ensures.course c.loop-code.invariant
 
 pub returns : goal.returns

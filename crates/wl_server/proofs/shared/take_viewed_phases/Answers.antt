@@ -13,7 +13,7 @@ returns-clause-taken g c =
     let from : Serving g.row.H.Denot g.row.H-Conn.Denot g.row.S.Denot = serving c.args.service.now.hub c.args.connections.now c.args.service.now.side c.args.service.now.waiting in
     let mid : Serving g.row.H.Denot g.row.H-Conn.Denot g.row.S.Denot = serving c.take_shared_in.new.service.hub c.take_shared_in.new.connections c.take_shared_in.new.service.side c.take_shared_in.new.service.waiting in
     let to : Serving g.row.H.Denot g.row.H-Conn.Denot g.row.S.Denot = serving c.give_out.new.service.hub c.give_out.new.connections c.give_out.new.service.side c.give_out.new.service.waiting in
-    let shown = c.in_ok-show_viewed.ensures in
+    let shown = c.in_ok-show_viewed.ensures.told in
     on_ok_weaker c.give_out.result
     (λ gives. (
       shown.0,
