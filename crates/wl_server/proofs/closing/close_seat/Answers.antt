@@ -25,7 +25,7 @@ returns-clause-told g c =
     rw (← c.recorded.view_is) (close-taken (ways g.H.Hub.accepts g.H.Hub.reads g.H.Hub.writes g.H.Hub.closes g.H.Hub.fault_count) c.args.client c.close.result c.args.hub.now c.hang_up.new.hub
     c.args.seat.now c.take.result c.take.new.self c.recorded.inside.session c.close.new.self.session _ _ c.take.ensures.value c.take.ensures.after
     (is-over c.args.client c.status.result c.in-Ended.cause c.is_finished.result c.args.seat.now c.recorded.inside.session c.in-Ended.is c.status.ensures c.if-not-is_finished.false c.is_finished.ensures)
-    c.hang_up.ensures c.close.ensures.course
+    c.hang_up.ensures (rw (← c.recorded.view_is) at c.close.ensures.course)
     (λ d agrees.
     let ended : fed.Ended c.in-Ended.cause ≡ status_of (peer_at c.args.client d) = sym c.in-Ended.is ∙ c.status.ensures d agrees in
     subst (λ (f : Fed). Appends (g.W.Write.contents c.args.report.now) (g.W.Write.contents c.write_end.new.writer) (ended_line c.args.client f)) ended wrote))
