@@ -16,6 +16,7 @@ use crate::hearing::hear;
 use crate::hub::Hub;
 use crate::phases::{give_out, take_in};
 use crate::pointing::point_all;
+use crate::recorded::Recorded;
 use crate::seat::Connections;
 use crate::showing::show;
 use crate::viewed::{show_viewed, tell};
@@ -24,14 +25,13 @@ use crate::waiting::Waiting;
 use std::alloc::Allocator;
 use std::io::Write;
 use wl_recording::{PointerLine, SideFiles};
-use wl_session::Session;
 
 /// A session whose clients are connections of a hub, with the side files of their stores, and the
 /// pointer lines that weren't taken yet.
 #[derive(Drop)]
-pub struct Service<A: Allocator, H, S> {
-    /// The clients, and the frame.
-    pub session: Session<A>,
+pub struct Service<A: Allocator, R: Write, H, S> {
+    /// The clients, and the frame, with what is recorded.
+    pub recorded: Recorded<A, R>,
     /// What gives the connections, and moves their bytes.
     pub hub: H,
     /// The files of the clients' stores.
@@ -40,16 +40,21 @@ pub struct Service<A: Allocator, H, S> {
     pub waiting: Waiting<A>,
 }
 
-impl<A: Allocator, H, S> Service<A, H, S> {
+impl<A: Allocator, R: Write, H, S> Service<A, R, H, S> {
     /// A session before its first turn. It takes no memory. Of the pointer lines those that are skipped or bad ask nothing.
-    pub fn new(session: Session<A>, hub: H, side: S, lines: Vec<PointerLine, A>) -> Service<A, H, S>
-        ensures session { result.session ≡ session }
+    pub fn new(
+        recorded: Recorded<A, R>,
+        hub: H,
+        side: S,
+        lines: Vec<PointerLine, A>,
+    ) -> Service<A, R, H, S>
+        ensures recorded { result.recorded ≡ recorded }
         ensures hub { result.hub ≡ hub }
         ensures side { result.side ≡ side }
         ensures waiting { result.waiting ≡ lines.items }
     {
         Service {
-            session,
+            recorded,
             hub,
             side,
             waiting: Waiting::new(lines),
@@ -70,8 +75,8 @@ impl<A: Allocator, H, S> Service<A, H, S> {
 ///
 /// What fails of a connection ends its client, and is never answered. `Write` is answered where the report or the images couldn't be
 /// written; the steps that were taken stand, and are those that a turn begins with.
-pub fn turn<A: Allocator + Copy, H: Hub, S: SideFiles, W: Write, P: Write>(
-    service: &mut Service<A, H, S>,
+pub fn turn<A: Allocator + Copy, R: Write, H: Hub, S: SideFiles, W: Write, P: Write>(
+    service: &mut Service<A, R, H, S>,
     connections: &mut Connections<H::Conn>,
     time: u32,
     report: &mut W,
@@ -80,19 +85,19 @@ pub fn turn<A: Allocator + Copy, H: Hub, S: SideFiles, W: Write, P: Write>(
     ensures taken { OnOk result (IsServed (IsTurn (ways H.accepts H.reads H.writes H.closes H.fault_count) (files_of S.opens S.gives S.fault_count) time
         (serving service.old.hub connections.old service.old.side service.old.waiting) (serving service.new.hub connections.new service.new.side service.new.waiting))
         (IsToldOf (W.contents report.old) (W.contents report.new) (images_in P.contents ppm.old) (images_in P.contents ppm.new))
-        service.old.session service.new.session) }
+        service.old.recorded.session service.new.recorded.session) }
     ensures begun { IsServed (StartsTurn (ways H.accepts H.reads H.writes H.closes H.fault_count) (files_of S.opens S.gives S.fault_count) time
         (serving service.old.hub connections.old service.old.side service.old.waiting) (serving service.new.hub connections.new service.new.side service.new.waiting))
-        (λ events. ⊤) service.old.session service.new.session }
+        (λ events. ⊤) service.old.recorded.session service.new.recorded.session }
     ensures waiting { service.new.waiting ≡ left_at time service.old.waiting }
 {
-    point_all(&mut service.session, &mut service.waiting, time);
+    point_all(&mut service.recorded, &mut service.waiting, time);
     take_phases(service, connections, time, report, ppm)
 }
 
 /// Serves the clients: the phases of a turn, but that of the pointer's lines.
-fn take_phases<A: Allocator + Copy, H: Hub, S: SideFiles, W: Write, P: Write>(
-    service: &mut Service<A, H, S>,
+fn take_phases<A: Allocator + Copy, R: Write, H: Hub, S: SideFiles, W: Write, P: Write>(
+    service: &mut Service<A, R, H, S>,
     connections: &mut Connections<H::Conn>,
     time: u32,
     report: &mut W,
@@ -100,15 +105,15 @@ fn take_phases<A: Allocator + Copy, H: Hub, S: SideFiles, W: Write, P: Write>(
 ) -> Result<(), TurnError>
     ensures taken { OnOk result (Tells (Serves (TakesIn (ways H.accepts H.reads H.writes H.closes H.fault_count) (files_of S.opens S.gives S.fault_count)) (ways H.accepts H.reads H.writes H.closes H.fault_count) time 32
         (serving service.old.hub connections.old service.old.side service.old.waiting) (serving service.new.hub connections.new service.new.side service.new.waiting))
-        service.old.session service.new.session (W.contents report.old) (W.contents report.new)
+        service.old.recorded.session service.new.recorded.session (W.contents report.old) (W.contents report.new)
         (images_in P.contents ppm.old) (images_in P.contents ppm.new)) }
     ensures begun { Takes (StartsServing (TakesIn (ways H.accepts H.reads H.writes H.closes H.fault_count) (files_of S.opens S.gives S.fault_count)) (ways H.accepts H.reads H.writes H.closes H.fault_count) time
         (serving service.old.hub connections.old service.old.side service.old.waiting) (serving service.new.hub connections.new service.new.side service.new.waiting))
-        service.old.session service.new.session }
+        service.old.recorded.session service.new.recorded.session }
     ensures waiting { service.new.waiting ≡ service.old.waiting }
 {
     take_in(service, connections, report)?;
-    show(&mut service.session, time, report, ppm)?;
+    show(&mut service.recorded, time, report, ppm)?;
     give_out(service, connections, report)
 }
 
@@ -122,8 +127,8 @@ fn take_phases<A: Allocator + Copy, H: Hub, S: SideFiles, W: Write, P: Write>(
 /// nothing where no window covers it of a client that broke its promises.
 ///
 /// Nothing of the viewer is told on the report, and nothing of it is answered.
-pub fn turn_viewed<A: Allocator + Copy, H: Hub, S: SideFiles, V: Hub, W: Write, P: Write>(
-    service: &mut Service<A, H, S>,
+pub fn turn_viewed<A: Allocator + Copy, R: Write, H: Hub, S: SideFiles, V: Hub, W: Write, P: Write>(
+    service: &mut Service<A, R, H, S>,
     connections: &mut Connections<H::Conn>,
     viewing: &mut Viewing<A, V, V::Conn>,
     time: u32,
@@ -134,26 +139,34 @@ pub fn turn_viewed<A: Allocator + Copy, H: Hub, S: SideFiles, V: Hub, W: Write, 
         (serving service.old.hub connections.old service.old.side service.old.waiting, (viewing.old.hub, viewing.old.watcher))
         (serving service.new.hub connections.new service.new.side service.new.waiting, (viewing.new.hub, viewing.new.watcher)))
         (IsToldOf (W.contents report.old) (W.contents report.new) (images_in P.contents ppm.old) (images_in P.contents ppm.new))
-        service.old.session service.new.session) }
+        service.old.recorded.session service.new.recorded.session) }
     ensures waiting { service.new.waiting ≡ left_at time service.old.waiting }
     ensures width { viewing.new.width ≡ viewing.old.width }
     ensures height { viewing.new.height ≡ viewing.old.height }
 {
-    point_all(&mut service.session, &mut service.waiting, time);
-    hear(viewing, &mut service.session, time);
+    point_all(&mut service.recorded, &mut service.waiting, time);
+    hear(viewing, &mut service.recorded, time);
     take_viewed_phases(service, connections, viewing, time, report, ppm)?;
     tell(
         &mut viewing.hub,
         &mut viewing.watcher,
-        &mut service.session,
+        &mut service.recorded,
         time,
     );
     Ok(())
 }
 
 /// Serves the clients, and the viewer is told of the frame: the phases of a turn, but those of the pointer's lines and of the viewer's connection.
-fn take_viewed_phases<A: Allocator + Copy, H: Hub, S: SideFiles, V: Hub, W: Write, P: Write>(
-    service: &mut Service<A, H, S>,
+fn take_viewed_phases<
+    A: Allocator + Copy,
+    R: Write,
+    H: Hub,
+    S: SideFiles,
+    V: Hub,
+    W: Write,
+    P: Write,
+>(
+    service: &mut Service<A, R, H, S>,
     connections: &mut Connections<H::Conn>,
     viewing: &mut Viewing<A, V, V::Conn>,
     time: u32,
@@ -163,7 +176,7 @@ fn take_viewed_phases<A: Allocator + Copy, H: Hub, S: SideFiles, V: Hub, W: Writ
     ensures taken { OnOk result ((update : Option Update) × Tells (ServesViewed (TakesIn (ways H.accepts H.reads H.writes H.closes H.fault_count) (files_of S.opens S.gives S.fault_count)) (ways H.accepts H.reads H.writes H.closes H.fault_count) time 32 update
         (serving service.old.hub connections.old service.old.side service.old.waiting, (viewing.old.hub, viewing.old.watcher))
         (serving service.new.hub connections.new service.new.side service.new.waiting, (viewing.new.hub, viewing.new.watcher)))
-        service.old.session service.new.session (W.contents report.old) (W.contents report.new)
+        service.old.recorded.session service.new.recorded.session (W.contents report.old) (W.contents report.new)
         (images_in P.contents ppm.old) (images_in P.contents ppm.new)) }
     ensures waiting { service.new.waiting ≡ service.old.waiting }
     ensures width { viewing.new.width ≡ viewing.old.width }
@@ -171,7 +184,7 @@ fn take_viewed_phases<A: Allocator + Copy, H: Hub, S: SideFiles, V: Hub, W: Writ
 {
     take_in(service, connections, report)?;
     show_viewed(
-        &mut service.session,
+        &mut service.recorded,
         &mut viewing.watcher,
         time,
         report,

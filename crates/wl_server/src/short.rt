@@ -27,18 +27,18 @@ use wl_recording::SideFiles;
 ///
 /// It answers whether anybody connected or sent bytes, so that another one may be wanted at once. `Write` is answered where the report
 /// couldn't be written.
-pub fn short_turn<A: Allocator + Copy, H: Hub, S: SideFiles, K: Clock, W: Write>(
+pub fn short_turn<A: Allocator + Copy, R: Write, H: Hub, S: SideFiles, K: Clock, W: Write>(
     shares: &mut Shares<'_, K>,
-    service: &mut Service<A, H, S>,
+    service: &mut Service<A, R, H, S>,
     connections: &mut Connections<H::Conn>,
     report: &mut W,
 ) -> Result<bool, TurnError>
     ensures taken { OnOk result ((images : Option (List ℕ)) → IsServed (IsShortTurn (ways H.accepts H.reads H.writes H.closes H.fault_count) (files_of S.opens S.gives S.fault_count)
         (serving service.old.hub connections.old service.old.side service.old.waiting) (serving service.new.hub connections.new service.new.side service.new.waiting))
-        (IsToldOf (W.contents report.old) (W.contents report.new) images images) service.old.session service.new.session) }
+        (IsToldOf (W.contents report.old) (W.contents report.new) images images) service.old.recorded.session service.new.recorded.session) }
     ensures begun { IsServed (StartsShortTurn (ways H.accepts H.reads H.writes H.closes H.fault_count) (files_of S.opens S.gives S.fault_count)
         (serving service.old.hub connections.old service.old.side service.old.waiting) (serving service.new.hub connections.new service.new.side service.new.waiting))
-        (λ events. ⊤) service.old.session service.new.session }
+        (λ events. ⊤) service.old.recorded.session service.new.recorded.session }
     ensures waiting { service.new.waiting ≡ service.old.waiting }
 {
     serve_between(shares, service, connections, report)
@@ -51,9 +51,17 @@ pub fn short_turn<A: Allocator + Copy, H: Hub, S: SideFiles, K: Clock, W: Write>
 /// Whoever copies the pixels of each whole update holds the last frame on, but for what the viewer wasn't told.
 ///
 /// It answers whether anybody connected or sent bytes, or the viewer took some.
-pub fn short_turn_viewed<A: Allocator + Copy, H: Hub, S: SideFiles, V: Hub, K: Clock, W: Write>(
+pub fn short_turn_viewed<
+    A: Allocator + Copy,
+    R: Write,
+    H: Hub,
+    S: SideFiles,
+    V: Hub,
+    K: Clock,
+    W: Write,
+>(
     shares: &mut Shares<'_, K>,
-    service: &mut Service<A, H, S>,
+    service: &mut Service<A, R, H, S>,
     connections: &mut Connections<H::Conn>,
     viewing: &mut Viewing<A, V, V::Conn>,
     time: u32,
@@ -62,13 +70,13 @@ pub fn short_turn_viewed<A: Allocator + Copy, H: Hub, S: SideFiles, V: Hub, K: C
     ensures taken { OnOk result ((images : Option (List ℕ)) → IsServed (IsShortViewedTurn (ways H.accepts H.reads H.writes H.closes H.fault_count) (ways V.accepts V.reads V.writes V.closes V.fault_count) (files_of S.opens S.gives S.fault_count) time viewing.old.width viewing.old.height
         (serving service.old.hub connections.old service.old.side service.old.waiting, (viewing.old.hub, viewing.old.watcher))
         (serving service.new.hub connections.new service.new.side service.new.waiting, (viewing.new.hub, viewing.new.watcher)))
-        (IsToldOf (W.contents report.old) (W.contents report.new) images images) service.old.session service.new.session) }
+        (IsToldOf (W.contents report.old) (W.contents report.new) images images) service.old.recorded.session service.new.recorded.session) }
     ensures waiting { service.new.waiting ≡ service.old.waiting }
     ensures width { viewing.new.width ≡ viewing.old.width }
     ensures height { viewing.new.height ≡ viewing.old.height }
 {
     let owed = owed_bytes(viewing);
-    hear(viewing, &mut service.session, time);
+    hear(viewing, &mut service.recorded, time);
     let is_busy = serve_between(shares, service, connections, report)?;
     Ok(is_busy || owed_bytes(viewing) != owed)
 }
@@ -82,18 +90,18 @@ fn owed_bytes<A: Allocator + Copy, V, C: Drop>(viewing: &Viewing<A, V, C>) -> us
 }
 
 /// Serves the clients, without a frame. True where anybody connected or sent bytes.
-fn serve_between<A: Allocator + Copy, H: Hub, S: SideFiles, K: Clock, W: Write>(
+fn serve_between<A: Allocator + Copy, R: Write, H: Hub, S: SideFiles, K: Clock, W: Write>(
     shares: &mut Shares<'_, K>,
-    service: &mut Service<A, H, S>,
+    service: &mut Service<A, R, H, S>,
     connections: &mut Connections<H::Conn>,
     report: &mut W,
 ) -> Result<bool, TurnError>
     ensures told { OnOk result (Reports (ServesBetween (SharesIn (ways H.accepts H.reads H.writes H.closes H.fault_count) (files_of S.opens S.gives S.fault_count)) (ways H.accepts H.reads H.writes H.closes H.fault_count) 32
         (serving service.old.hub connections.old service.old.side service.old.waiting) (serving service.new.hub connections.new service.new.side service.new.waiting))
-        service.old.session service.new.session (W.contents report.old) (W.contents report.new)) }
+        service.old.recorded.session service.new.recorded.session (W.contents report.old) (W.contents report.new)) }
     ensures begun { Takes (StartsBetween (SharesIn (ways H.accepts H.reads H.writes H.closes H.fault_count) (files_of S.opens S.gives S.fault_count)) (ways H.accepts H.reads H.writes H.closes H.fault_count)
         (serving service.old.hub connections.old service.old.side service.old.waiting) (serving service.new.hub connections.new service.new.side service.new.waiting))
-        service.old.session service.new.session }
+        service.old.recorded.session service.new.recorded.session }
     ensures waiting { service.new.waiting ≡ service.old.waiting }
 {
     let accepted = connections.count();
