@@ -172,9 +172,9 @@ popup-ends old new c r d object number k x h is one its gone table keeps linked 
 -- nothing of the surfaces is made of it
 pub touched-so : {A : Type 0} (touch : Touch) (number : ℕ) (old new : SurfacesView) (told : Option (Applied A)) → touch ≡ Closes number → new ≡ old
     → IfSome told (λ applied. applied.changes.items ≡ []) → IsTouched touch old new told
-touched-so touch number old new told is same none = subst (λ (t : Touch). IsTouched t old new told) (sym is) (at told none)
+touched-so {A} touch number old new told is same none = subst (λ (t : Touch). IsTouched t old new told) (sym is) (at told none)
   where
-    at : (o : Option (Applied _)) → IfSome o (λ applied. applied.changes.items ≡ []) → IsTouched (Closes number) old new o
+    at : (o : Option (Applied A)) → IfSome o (λ applied. applied.changes.items ≡ []) → IsTouched (Closes number) old new o
     at None none = tt
     at (Some applied) none = (same, none)
 
