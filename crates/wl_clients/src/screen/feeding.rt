@@ -139,9 +139,9 @@ impl<A: Allocator + Copy> Screen<A> {
 
     /// Takes the first whole message of a client that lives, which asks this, and answers what it asks of the pointer and whether it may have
     /// changed windows, which takes the same time however many there are; None where there is no message. What it changes of the windows of a
-    /// toplevel is marked, tree by tree: the damage that it applied, where the windows of a tree stand as they did; else all of them, as they
-    /// were before and as they are after. Where the client ends by it, its windows are marked, and no more; so does one that asks for a
-    /// wl_pointer where there is no seat for that. A grab is allowed by what is handed in for that.
+    /// toplevel is marked: the damage that it applied to those that stay in their places, and all points of those that moved, came or went, as
+    /// they were before and as they are after. Where several trees changed, all windows of each are. Where the client ends by it, its windows are
+    /// marked, and no more; so does one that asks for a wl_pointer where there is no seat for that. A grab is allowed by what is handed in for that.
     pub fn serve(
         &mut self,
         resident: &mut Resident<A>,
