@@ -1,6 +1,6 @@
 -- What is marked where windows of a toplevel moved: those that stay in their places are painted again only where they are damaged (wayland.xml,
 -- wl_surface.damage, wl_subsurface.set_position, place_above and place_below).
-use Rattle.std.specs.Prelude.{ℕ, ℤ, ◌*◌, ◌+◌, ◌-◌, ◌==◌, ◌&&◌, ◌||◌, ◌^◌, min, nat_le, not, pos, Bool, true, false, if◌then◌else◌, List, [], ◌∷◌, drop, fold, length, reverse, take, zip}
+use Rattle.std.specs.Prelude.{ℕ, ℤ, ◌*◌, ◌+◌, ◌-◌, ◌==◌, ◌&&◌, ◌||◌, ◌^◌, min, nat_le, not, Bool, true, if◌then◌else◌, List, [], ◌∷◌, drop, fold, length, reverse, take, zip}
 use Rattle.std.specs.List.{list_all, position_or_len, prefix_len}
 use Rattle.wl_scene.specs.Repaint.{is_same_window, marks, marks_trees, same_windows}
 use Rattle.wl_scene.specs.declared.tree_window.TreeWindow.{TreeWindow}

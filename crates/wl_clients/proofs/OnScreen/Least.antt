@@ -13,15 +13,15 @@ use Rattle.wl_surface.specs.State.{is_damaged}
 use Rattle.wl_surface.specs.Surfaces.{Surfaces}
 use Rattle.wl_surface.specs.declared.applied.Change.{Change}
 use Rattle.spec_desktop.specs.Desktop.{Desktop, owned_in}
-use Rattle.spec_desktop.specs.Marks.{Applied, AreDistinct, at_least, has_same_record, in_output, int_eq, is_changed_at, is_damaged_at, is_restacked_at}
+use Rattle.spec_desktop.specs.Marks.{Applied, AreDistinct, has_same_record, in_output, int_eq, is_changed_at, is_damaged_at, is_restacked_at}
 use Rattle.spec_desktop.specs.Moments.{applied_between, marks_at_least}
 use Rattle.spec_desktop.specs.Stacked.{all_windows}
 use Rattle.spec_desktop.specs.Windows.{Window, contains}
-use Rattle.law_desktop.proofs.Lists.Each.{Each, each-append, each-both, each-first, each-map, each-second}
+use Rattle.law_desktop.proofs.Lists.Each.{Each, each-first, each-map, each-second}
 use Rattle.law_desktop.proofs.Lists.Tests.{each-all as so-each}
-use Rattle.law_desktop.proofs.Marks.Stacks.{AreSame, recorded, fields}
-use Rattle.law_desktop.proofs.RootsOf.Staying.{all-each, each-all}
-use Rattle.law_desktop.proofs.Truth.{and-left, and-right, differ, either-of, or-left, or-right}
+use Rattle.law_desktop.proofs.Marks.Stacks.{AreSame, recorded}
+use Rattle.law_desktop.proofs.RootsOf.Staying.{all-each}
+use Rattle.law_desktop.proofs.Truth.{and-right, differ, either-of, or-left, or-right}
 use Rattle.law_desktop.specs.Renaming.{AreToldApart, has_surface}
 use Rattle.law_desktop.specs.Toplevel.{ChangesToplevel, windows_with}
 use Rattle.law_desktop.specs.TreeMarksLaws.{AreUndamaged, among, is_in_any, is_struck_at}

@@ -1,13 +1,13 @@
 -- Windows before and after a step, in pieces: those of a piece stay as they are, one by one, or all of them may have changed.
-use Rattle.std.proofs.Common.{◌≡◌, ℕ, ◌+◌, ◌≤◌, Bool, true, false, List, [], ◌∷◌, ◌++◌, refl, ap, ap₂, sym, subst, ◌∙◌, arith, cond}
-use Rattle.std.specs.Prelude.{ℤ, ◌==◌, ◌&&◌, ◌||◌, if◌then◌else◌, not, count_by}
+use Rattle.std.proofs.Common.{◌≡◌, ℕ, ◌+◌, ◌≤◌, Bool, true, false, List, [], ◌∷◌, ◌++◌, refl, ap, ap₂, sym, ◌∙◌, arith, cond}
+use Rattle.std.specs.Prelude.{ℤ, ◌==◌, ◌&&◌, ◌||◌, if◌then◌else◌, not}
 use Rattle.std.specs.List.{list_any}
-use Rattle.std.proofs.lemmas.Bool.{and_from, false_from_ne_true, or_left, or_right}
+use Rattle.std.proofs.lemmas.Bool.{false_from_ne_true, or_left, or_right}
 use Rattle.std.proofs.lemmas.List.Folds.{list_any-append}
 use Rattle.spec_desktop.specs.Windows.{Window, contains}
 use Rattle.spec_desktop.specs.Marks.{Applied, AreDistinct, has_moved_past, has_same_record, is_before, is_changed_at, is_damaged_at, is_kept_in, is_restacked_at, is_same_surface, shared_by}
 use Rattle.law_desktop.specs.TreeMarksLaws.{is_in_any, is_struck_at}
-use Rattle.law_desktop.proofs.Marks.Stacks.{AreSame, any-surface, before-there, fields, record-surface, recorded, surface-as, surface-turned}
+use Rattle.law_desktop.proofs.Marks.Stacks.{AreSame, any-surface, before-there, fields, recorded}
 use Rattle.law_desktop.proofs.Lists.Each.{Each, each-append, each-map}
 use Rattle.law_desktop.proofs.Lists.Tests.{any-first, any-more, any-of, any-second}
 use Rattle.law_desktop.proofs.Truth.{and-left, and-right, differ, either-of, or-left, or-right, or-swapped}
