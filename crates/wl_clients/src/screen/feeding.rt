@@ -144,8 +144,8 @@ impl<A: Allocator + Copy> Screen<A> {
     /// The answer is what it asks of the pointer, and whether it may have changed windows. Finding
     /// that takes the same time however many windows there are.
     ///
-    /// What it changes of a toplevel's windows is marked: the damage that it applied to those that
-    /// stay in their places, and all points of those that moved, came or went, before and after.
+    /// What it changes of a toplevel's windows is marked. Of those that stay in their places that
+    /// is the damage applied, and of those that moved, came or went all points, before and after.
     /// Where several trees changed, all windows of each are marked. If the client ends, its windows
     /// are marked, and no others.
     ///
