@@ -72,7 +72,8 @@ fn takes<W: Write, P: Write>(
         name: "2.1",
         opened: 0,
     };
-    let mut service = Service::new(Recorded::without(session), hub, side, Vec::new(alloc));
+    let recorded: Recorded<Global, Vec<u8>> = Recorded::without(session);
+    let mut service = Service::new(recorded, hub, side, Vec::new(alloc));
     let mut connections = Connections::new();
     for time in 1..turns.saturating_add(1) {
         let answer = turn(&mut service, &mut connections, time, report, ppm);
