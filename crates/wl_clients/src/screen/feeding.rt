@@ -140,24 +140,17 @@ impl<A: Allocator + Copy> Screen<A> {
         }
     }
 
-<<<<<<< HEAD
-    /// Takes the first whole message of a client that lives, which asks this, and answers what it asks of the pointer and whether it may have
-    /// changed windows, which takes the same time however many there are; None where there is no message. What it changes of the windows of a
-    /// toplevel is marked: the damage that it applied to those that stay in their places, and all points of those that moved, came or went, as
-    /// they were before and as they are after. Where several trees changed, all windows of each are. Where the client ends by it, its windows are
-    /// marked, and no more; so does one that asks for a wl_pointer where there is no seat for that. A grab is allowed by what is handed in for that.
-=======
     /// Takes the first whole message of a living client, which asks this. `None` if there is none.
     /// The answer is what it asks of the pointer, and whether it may have changed windows. Finding
     /// that takes the same time however many windows there are.
     ///
-    /// What it changes of a toplevel's windows is marked, tree by tree. If the windows of a tree
-    /// stand as before, that is the damage applied; else all of them, as they were and as they are.
-    /// If the client ends, its windows are marked, and no others.
+    /// What it changes of a toplevel's windows is marked. Of those that stand as before, that is the
+    /// damage applied. Of those that moved, came or went it is all points, as they were and as they
+    /// are. Where several trees changed, it is all windows of each. If the client ends, its windows
+    /// are marked, and no others.
     ///
     /// A client that asks for a wl_pointer without a seat for it ends too. `grabbing` says by what
     /// a grab is allowed.
->>>>>>> f795e7f041c95613ef085f277438767cb214d626
     pub fn serve(
         &mut self,
         resident: &mut Resident<A>,

@@ -128,15 +128,9 @@ impl<A: Allocator + Copy> Screen<A> {
         mark_windows(&mut self.damage, &self.spare.is);
     }
 
-<<<<<<< HEAD
-    /// What a message changed of the windows of a toplevel is marked, by those before and after it and by what it applied to surfaces: where
-    /// windows of one tree moved, those, and what is damaged of the others; else tree by tree (wayland.xml,
-    /// wl_surface.damage and wl_subsurface; xdg-shell.xml, xdg_popup).
-=======
-    /// Marks what a message changed of a toplevel's windows, tree by tree (wayland.xml,
-    /// wl_surface.damage and wl_subsurface; xdg-shell.xml, xdg_popup). It goes by the windows
-    /// before and after, and by what the message applied to surfaces.
->>>>>>> f795e7f041c95613ef085f277438767cb214d626
+    /// Marks what a message changed of a toplevel's windows (wayland.xml, wl_surface.damage and
+    /// wl_subsurface; xdg-shell.xml, xdg_popup). It goes by the windows before and after, and by
+    /// what the message applied to surfaces. See [`mark_moved`].
     fn mark_changed(&mut self, applied: &Option<Applied<A>>)
         ensures points { AreTogether self.old.spare.was.items → AreTogether self.old.spare.is.items
             → AddsPoints (marks_moved self.old.spare.was.items self.old.spare.is.items (changes_in applied.now)) self.old.damage self.new.damage }

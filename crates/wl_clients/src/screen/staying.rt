@@ -1,4 +1,5 @@
-//! The windows of a toplevel that stay in their places where others moved: they are painted again only where they are damaged.
+//! The windows of a toplevel that stay in their places where others moved. They are painted again
+//! only where they are damaged.
 
 ghost use Rattle.std.specs.Prelude.{ℕ, ◌≡◌, ◌+◌, ◌-◌, ◌<◌, ◌≤◌, ◌||◌, drop, length, pos, take};
 ghost use Rattle.std.specs.List.{position_or_len};
@@ -12,14 +13,15 @@ use wl_paint::Damage;
 use wl_scene::{TreeWindow, mark_tree, mark_trees};
 use wl_surface::{Change, SurfaceNo};
 
-/// Whether two lists are of the same windows, each with the same place, size, transform and scale.
+/// Whether two lists have the same windows, each with the same place, size, transform and scale.
 fn are_same(was: &[TreeWindow], is: &[TreeWindow]) -> bool
     ensures { result ≡ same_windows was.now is.now }
 {
     was == is
 }
 
-/// Whether two windows are of one surface of one tree, with the same place, size, transform and scale.
+/// Whether two windows are of one surface of one tree, and have the same place, size, transform and
+/// scale.
 fn is_same(window: &TreeWindow, other: &TreeWindow) -> bool
     ensures { result ≡ is_same_window window.now other.now }
 {
@@ -112,7 +114,8 @@ fn count_below_window(windows: &[TreeWindow], window: &TreeWindow) -> usize
         .count()
 }
 
-/// How many windows there are below the one that is the lowest of another list; all, where it isn't among them.
+/// How many of these windows stand below the lowest of another list; all, where it isn't among
+/// them.
 fn count_below(windows: &[TreeWindow], others: &[TreeWindow]) -> usize
     ensures count { result ≡ count_below windows.now others.now }
     ensures few { result ≤ length windows.now }
@@ -123,7 +126,8 @@ fn count_below(windows: &[TreeWindow], others: &[TreeWindow]) -> usize
     }
 }
 
-/// Where the others of these windows stand at the bottom of another list, how many moved up past them; else all.
+/// How many of these windows moved up past the others, which stand at the bottom of another list.
+/// All, where there are none such.
 fn lifted(windows: &[TreeWindow], others: &[TreeWindow]) -> usize
     ensures count { result ≡ lifted windows.now others.now }
     ensures few { result ≤ length windows.now }
@@ -149,7 +153,8 @@ fn pixels_in(windows: &[TreeWindow]) -> u64
     pixels
 }
 
-/// How many pixels the windows have that moved up past the others, where there are so many, with their old places.
+/// How many pixels the windows have that moved up past the others, in both of their places. `count`
+/// is how many windows these are.
 fn pixels_lifted(was: &[TreeWindow], is: &[TreeWindow], count: usize) -> u64
     requires count { count ≡ lifted was.now is.now }
     requires few { count ≤ length was.now }
@@ -159,7 +164,8 @@ fn pixels_lifted(was: &[TreeWindow], is: &[TreeWindow], count: usize) -> u64
     pixels_in(lowest(was, count)).saturating_add(pixels_in(above(is, was.len() - count)))
 }
 
-/// How windows before and after fall in three pieces: so many at the bottom, so many that stay above those, and the others.
+/// How windows before and after fall in three pieces: so many at the bottom, so many that stay above
+/// those, and the others.
 #[derive(Clone, Copy, Debug)]
 struct Pieces {
     below_was: usize,
@@ -174,7 +180,7 @@ struct Stay {
     above: usize,
 }
 
-/// What is to be painted again of windows in three pieces, each by itself, is marked.
+/// Marks what is to be painted again of windows in three pieces, each by itself.
 fn mark_pieces<A: Allocator>(
     damage: &mut Damage<A>,
     was: &[TreeWindow],
@@ -204,7 +210,8 @@ fn mark_pieces<A: Allocator>(
     );
 }
 
-/// Of windows of which some moved past others, those are marked that have the fewer pixels, in their old places and in their new ones.
+/// Marks windows of which some moved past others: those with fewer pixels, in their old places and
+/// in their new ones. Every point that changed lies in both.
 fn mark_past<A: Allocator>(
     damage: &mut Damage<A>,
     was: &[TreeWindow],
@@ -233,7 +240,8 @@ fn mark_past<A: Allocator>(
     }
 }
 
-/// Of windows of which so many stay at the bottom and so many on top, what is damaged of those is marked, and what moved between them.
+/// Marks what is damaged of the windows that stay at the bottom and on top, and what moved between
+/// them.
 fn mark_around<A: Allocator>(
     damage: &mut Damage<A>,
     was: &[TreeWindow],
@@ -267,7 +275,8 @@ fn mark_around<A: Allocator>(
     );
 }
 
-/// Whether windows of one tree moved, and no others, between so many that stay at the bottom and so many on top.
+/// Whether windows of one tree moved, and no others, between those that stay at the bottom and on
+/// top.
 fn moves_in_one(was: &[TreeWindow], is: &[TreeWindow], stay: Stay) -> bool
     requires below_was { stay.below ≤ length was.now }
     requires below_is { stay.below ≤ length is.now }
@@ -290,9 +299,12 @@ fn staying(was: &[TreeWindow], is: &[TreeWindow]) -> Stay
     Stay { below, above }
 }
 
-/// What a message that changed windows of a toplevel marks, by those before and after it and what it applied to surfaces. Where windows of one tree
-/// moved, came or went, those are marked, in their old places and in their new ones, and what is damaged of the others. Else each tree is marked
-/// by itself (wayland.xml, wl_surface.damage and wl_subsurface; xdg-shell.xml, xdg_popup).
+/// Marks what a message changed of a toplevel's windows (wayland.xml, wl_surface.damage and
+/// wl_subsurface; xdg-shell.xml, xdg_popup). It goes by the windows before and after, and by what
+/// the message applied to surfaces.
+///
+/// Where windows of one tree moved, came or went, those are marked, in their old places and in their
+/// new ones, and what is damaged of the others. Else each tree is marked by itself.
 pub(crate) fn mark_moved<A: Allocator>(
     damage: &mut Damage<A>,
     was: &[TreeWindow],
