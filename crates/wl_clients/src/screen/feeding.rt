@@ -144,10 +144,10 @@ impl<A: Allocator + Copy> Screen<A> {
     /// The answer is what it asks of the pointer, and whether it may have changed windows. Finding
     /// that takes the same time however many windows there are.
     ///
-    /// What it changes of a toplevel's windows is marked. Of those that stand as before, that is the
-    /// damage applied. Of those that moved, came or went it is all points, as they were and as they
-    /// are. Where several trees changed, it is all windows of each. If the client ends, its windows
-    /// are marked, and no others.
+    /// What it changes of a toplevel's windows is marked. Of those that stand as before, that is
+    /// the damage applied. Of those that moved, came or went it is all points, as they were and as
+    /// they are. Where several trees changed, it is all windows of each. If the client ends, its
+    /// windows are marked, and no others.
     ///
     /// A client that asks for a wl_pointer without a seat for it ends too. `grabbing` says by what
     /// a grab is allowed.

@@ -164,8 +164,8 @@ fn pixels_lifted(was: &[TreeWindow], is: &[TreeWindow], count: usize) -> u64
     pixels_in(lowest(was, count)).saturating_add(pixels_in(above(is, was.len() - count)))
 }
 
-/// How windows before and after fall in three pieces: so many at the bottom, so many that stay above
-/// those, and the others.
+/// How windows before and after fall in three pieces: so many at the bottom, so many that stay
+/// above those, and the others.
 #[derive(Clone, Copy, Debug)]
 struct Pieces {
     below_was: usize,
@@ -303,8 +303,8 @@ fn staying(was: &[TreeWindow], is: &[TreeWindow]) -> Stay
 /// wl_subsurface; xdg-shell.xml, xdg_popup). It goes by the windows before and after, and by what
 /// the message applied to surfaces.
 ///
-/// Where windows of one tree moved, came or went, those are marked, in their old places and in their
-/// new ones, and what is damaged of the others. Else each tree is marked by itself.
+/// Where windows of one tree moved, came or went, those are marked, in their old places and in
+/// their new ones, and what is damaged of the others. Else each tree is marked by itself.
 pub(crate) fn mark_moved<A: Allocator>(
     damage: &mut Damage<A>,
     was: &[TreeWindow],
