@@ -88,7 +88,7 @@ fn recorded<A: Allocator + Copy, R: Write>(
     }
 }
 
-/// Makes the socket that a viewer connects to, where there is to be one.
+/// Makes the socket that a viewer connects to, if there is to be one.
 fn bind_viewer<F: Files + Net>(files: &F, path: Option<&str>) -> Result<Option<SocketHub>, Fault>
     ensures asked { IfOk result (λ hub. is_some hub ≡ is_some path.entry) }
     ensures bound { IfOk result (λ hub. IfSome hub (λ h. h ≡ 0)) }
@@ -141,11 +141,17 @@ fn session_of<A: Allocator + Copy>(alloc: A, size: Size) -> Result<Session<A>, F
     }
 }
 
-/// Serves the clients of a hub over their connections: takes the turns 1 to as many as the schedule's pace has, one after another, each at its
-/// time; at a rate with short turns between them, in which clients are served without a frame.
+/// Serves the clients of a hub over their connections. It takes the turns 1 to as many as the
+/// schedule's pace has, one after another, each at its time. At a rate it takes short turns between
+/// them, in which clients are served without a frame.
 ///
-/// Turns begin at most as often as the pace says, and between them it sleeps by the schedule's clock; no clause says how long. `Write` is answered where the
-/// report or the images couldn't be written; then no more turns are taken, and the steps of those that were stand.
+/// Turns begin at most as often as the pace says. Between them it sleeps by the schedule's clock;
+/// no clause says how long.
+///
+/// # Errors
+///
+/// `Write` if the report or the images couldn't be written. Then no more turns are taken, and the
+/// steps of those taken stand.
 pub fn serve_on<C: Clock, A: Allocator + Copy, R: Write, H: Hub, S: SideFiles, W: Write, P: Write>(
     schedule: Schedule<'_, C>,
     service: &mut Service<A, R, H, S>,

@@ -109,7 +109,7 @@ fn take_short_turns<
     Ok(())
 }
 
-/// Takes a short turn, and writes what it reports. True where it found something to do.
+/// Takes a short turn, and writes its report. The answer is true if it found something to do.
 fn take_short_turn<
     A: Allocator + Copy,
     R: Write,
@@ -142,7 +142,8 @@ fn take_short_turn<
     }
 }
 
-/// Takes a turn at this time, and writes what it reports, so that whoever reads along sees it before the next one.
+/// Takes a turn at this time, in milliseconds, and writes its report, so whoever reads along sees
+/// it before the next turn.
 fn take_turn<A: Allocator + Copy, R: Write, H: Hub, S: SideFiles, W: Write, P: Write>(
     service: &mut Service<A, R, H, S>,
     connections: &mut Connections<H::Conn>,
@@ -167,7 +168,8 @@ fn take_turn<A: Allocator + Copy, R: Write, H: Hub, S: SideFiles, W: Write, P: W
     }
 }
 
-/// Takes a turn at this time whose clients share the server's time, and writes what it reports, so that whoever reads along sees it before the next one.
+/// Takes a turn at this time, in milliseconds, in which clients share the server's time. It writes
+/// the report, so whoever reads along sees it before the next turn.
 fn take_shared_turn<
     A: Allocator + Copy,
     R: Write,
@@ -327,7 +329,7 @@ fn take_short_viewed_turn<
     }
 }
 
-/// Takes a turn with a viewer at this time, and writes what it reports.
+/// Takes a turn with a viewer at this time, in milliseconds, and writes its report.
 fn take_viewed_turn<
     A: Allocator + Copy,
     R: Write,

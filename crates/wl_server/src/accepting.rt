@@ -19,7 +19,8 @@ use wl_session::{ClientNo, ConnectError};
 /// How many connections are accepted in a turn, at most.
 const ACCEPTS: usize = 32;
 
-/// Accepts those that wait, and tells of each that became a client. A fault ends accepting for this turn.
+/// Accepts the connections that wait, and reports each that became a client. A fault ends accepting
+/// for this turn.
 pub(crate) fn accept_all<A: Allocator + Copy, R: Write, H: Hub, W: Write>(
     hub: &mut H,
     recorded: &mut Recorded<A, R>,
@@ -43,7 +44,7 @@ pub(crate) fn accept_all<A: Allocator + Copy, R: Write, H: Hub, W: Write>(
     Ok(())
 }
 
-/// Accepts a connection that waits. False where none is to be accepted any more in this turn.
+/// Accepts a connection that waits. The answer is false if no more are to be accepted in this turn.
 fn accept_one<A: Allocator + Copy, R: Write, H: Hub, W: Write>(
     hub: &mut H,
     recorded: &mut Recorded<A, R>,

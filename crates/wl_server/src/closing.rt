@@ -18,7 +18,7 @@ use std::io::Write;
 use wl_recording::write_end;
 use wl_session::{ClientNo, Fed, Session};
 
-/// Closes each client that ended, once its bytes went out or a write to it failed, and tells of it.
+/// Closes each client that ended, once its bytes went out or a write to it failed, and reports it.
 pub(crate) fn close_all<A: Allocator + Copy, R: Write, H: Hub, W: Write>(
     hub: &mut H,
     recorded: &mut Recorded<A, R>,
@@ -37,7 +37,8 @@ pub(crate) fn close_all<A: Allocator + Copy, R: Write, H: Hub, W: Write>(
     Ok(())
 }
 
-/// Closes a client, if it ended, and its bytes went out or can't. An `Err` changes nothing but the report.
+/// Closes a client, if it ended, and its bytes went out or can't. An `Err` changes nothing but the
+/// report.
 fn close_seat<A: Allocator + Copy, R: Write, H: Hub, W: Write>(
     hub: &mut H,
     recorded: &mut Recorded<A, R>,

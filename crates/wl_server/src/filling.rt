@@ -40,7 +40,7 @@ struct Target {
     store: StoreNo,
 }
 
-/// Each client that sent bytes gets its side files.
+/// Puts the side files of each client that sent bytes into its stores.
 pub(crate) fn fill_all<A: Allocator + Copy, R: Write, C: Drop, S: SideFiles>(
     recorded: &mut Recorded<A, R>,
     seats: &[Option<Seat<C>>],
@@ -73,7 +73,8 @@ pub(crate) fn fill_seat<A: Allocator + Copy, R: Write, C: Drop, S: SideFiles>(
     }
 }
 
-/// Fills the stores of a client: the ranges that its list names, where there is one; else each live store whole.
+/// Fills the stores of a client: the ranges that its list names, if there is one, else each live
+/// store whole.
 fn fill_client<A: Allocator + Copy, R: Write, S: SideFiles>(
     recorded: &mut Recorded<A, R>,
     client: ClientNo,
@@ -114,7 +115,7 @@ fn fill_stores<A: Allocator + Copy, R: Write, S: SideFiles>(
     }
 }
 
-/// Fills a store from its start on. Where its file is missing or fails, the rest stays.
+/// Fills a store from its start on. If its file is missing or fails, the rest stays.
 fn fill_store<A: Allocator + Copy, R: Write, S: SideFiles>(
     recorded: &mut Recorded<A, R>,
     target: Target,
@@ -205,7 +206,8 @@ fn fill_ranges<A: Allocator + Copy, R: Write, S: SideFiles>(
     }
 }
 
-/// Fills a range of a store, up to the store's end. Where its file is missing or fails, and where there is no such store, it stays.
+/// Fills a range of a store, up to the store's end. The range stays if its file is missing or
+/// fails, or there is no such store.
 fn fill_range<A: Allocator + Copy, R: Write, S: SideFiles>(
     recorded: &mut Recorded<A, R>,
     client: ClientNo,
@@ -228,7 +230,8 @@ fn fill_range<A: Allocator + Copy, R: Write, S: SideFiles>(
     }
 }
 
-/// Puts at most so many bytes of a store's file, from its byte `from` on, into the store from its byte `at` on.
+/// Puts at most `most` bytes of a store's file, from its byte `from` on, into the store from its
+/// byte `at` on.
 fn fill_part<A: Allocator + Copy, R: Write, S: SideFiles>(
     recorded: &mut Recorded<A, R>,
     target: Target,
@@ -289,7 +292,7 @@ fn push(name: &mut ArrayString<NAME>, text: &str)
     };
 }
 
-/// Puts at most so many of the open file's bytes into a store, from its byte `at` on.
+/// Puts at most this many of the open file's bytes into a store, from its byte `at` on.
 fn put_file<A: Allocator + Copy, R: Write, S: SideFiles>(
     recorded: &mut Recorded<A, R>,
     target: Target,
@@ -313,7 +316,8 @@ fn put_file<A: Allocator + Copy, R: Write, S: SideFiles>(
     }
 }
 
-/// Puts what one read of the open file gives into a store, and answers how many bytes. None at the file's end, and where the read fails.
+/// Puts what one read of the open file gives into a store, and answers how many bytes. It is 0 at
+/// the file's end, and if the read fails.
 fn put_piece<A: Allocator + Copy, R: Write, S: SideFiles>(
     recorded: &mut Recorded<A, R>,
     target: Target,

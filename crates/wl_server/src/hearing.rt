@@ -22,8 +22,8 @@ const READS: usize = 16;
 /// How many bytes are read at once, at most.
 const PIECE: usize = 4096;
 
-/// The viewer is served; then a connection that waits gets the place if nobody has it, and is served too, and else is closed at once. True where
-/// the place has somebody new.
+/// Serves the viewer, and then a connection that waits. That one gets the place if nobody has it,
+/// and is served too; else it is closed at once. The answer is true if somebody new has the place.
 pub(crate) fn hear<A: Allocator + Copy, R: Write, V: Hub>(
     viewing: &mut Viewing<A, V, V::Conn>,
     recorded: &mut Recorded<A, R>,
@@ -46,7 +46,7 @@ pub(crate) fn hear<A: Allocator + Copy, R: Write, V: Hub>(
     is_new
 }
 
-/// A viewer that got its place just now is served.
+/// Serves a viewer that got its place just now.
 fn attend_new<A: Allocator + Copy, R: Write, V: Hub>(
     is_new: bool,
     hub: &mut V,
@@ -62,7 +62,7 @@ fn attend_new<A: Allocator + Copy, R: Write, V: Hub>(
     attend(hub, place, recorded, time);
 }
 
-/// A viewer is written to and read, if there is one, and leaves where it ended.
+/// Writes to a viewer and reads it, if there is one, and takes its place away if it ended.
 fn attend<A: Allocator + Copy, R: Write, V: Hub>(
     hub: &mut V,
     place: &mut Option<Watcher<A, V::Conn>>,
@@ -75,7 +75,7 @@ fn attend<A: Allocator + Copy, R: Write, V: Hub>(
     dismiss(hub, place, recorded, time);
 }
 
-/// A viewer is written to and read, if there is one.
+/// Writes to a viewer and reads it, if there is one.
 fn exchange<A: Allocator + Copy, R: Write, V: Hub>(
     hub: &mut V,
     place: &mut Option<Watcher<A, V::Conn>>,
@@ -138,7 +138,7 @@ pub(crate) fn write_watcher<A: Allocator + Copy, V: Hub>(
     watcher.has_failed = delivered.is_gone;
 }
 
-/// Reads a viewer until it would block, but at most so often.
+/// Reads a viewer until it would block, but at most [`READS`] times.
 fn read_watcher<A: Allocator + Copy, R: Write, V: Hub>(
     hub: &mut V,
     watcher: &mut Watcher<A, V::Conn>,
@@ -155,7 +155,7 @@ fn read_watcher<A: Allocator + Copy, R: Write, V: Hub>(
     }
 }
 
-/// Reads once, and takes what came. False where no more is to be read.
+/// Reads once, and takes what came. The answer is false if no more is to be read.
 fn read_once<A: Allocator + Copy, R: Write, V: Hub>(
     hub: &mut V,
     watcher: &mut Watcher<A, V::Conn>,
@@ -189,7 +189,7 @@ fn is_left<A: Allocator + Copy, C: Drop>(watcher: &Watcher<A, C>) -> bool
     watcher.has_failed || watcher.viewer.is_bad()
 }
 
-/// Takes bytes of a viewer: the pointer does what its lines ask, at this time.
+/// Takes a viewer's bytes: the pointer does what its lines ask, at this time, in milliseconds.
 fn take_bytes<A: Allocator + Copy, R: Write>(
     viewer: &mut Viewer<A>,
     recorded: &mut Recorded<A, R>,
@@ -205,7 +205,7 @@ fn take_bytes<A: Allocator + Copy, R: Write>(
     }
 }
 
-/// The pointer does what is asked, at this time.
+/// Has the pointer do what is asked, at this time, in milliseconds.
 fn act<A: Allocator + Copy, R: Write>(recorded: &mut Recorded<A, R>, asked: Asked, time: u32)
     ensures { Takes (Does (act_of time asked)) recorded.old.session recorded.new.session }
 {
@@ -216,8 +216,8 @@ fn act<A: Allocator + Copy, R: Write>(recorded: &mut Recorded<A, R>, asked: Aske
     }
 }
 
-/// Where the viewer ended or failed, or was told of a bad line, it loses its place: the buttons that it holds are released at this time, and its
-/// connection is closed.
+/// Takes the place from a viewer that ended or failed, or was told of a bad line. The buttons that
+/// it holds are released at this time, in milliseconds, and its connection is closed.
 pub(crate) fn dismiss<A: Allocator + Copy, R: Write, V: Hub>(
     hub: &mut V,
     place: &mut Option<Watcher<A, V::Conn>>,
@@ -244,7 +244,7 @@ fn is_dismissed<A: Allocator + Copy, C: Drop>(watcher: &Watcher<A, C>) -> bool
     watcher.has_failed || watcher.viewer.is_done()
 }
 
-/// Releases these buttons at this time.
+/// Releases these buttons at this time, in milliseconds.
 fn release_all<A: Allocator + Copy, R: Write>(
     recorded: &mut Recorded<A, R>,
     buttons: &[u32],

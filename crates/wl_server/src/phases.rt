@@ -25,7 +25,8 @@ use std::io::Write;
 use std::time::Clock;
 use wl_recording::SideFiles;
 
-/// Takes the clients in: connections are accepted, clients are read, and those that sent bytes get their side files.
+/// Takes the clients in: accepts connections, reads clients, and puts the side files of those that
+/// sent bytes into their stores.
 pub(crate) fn take_in<A: Allocator + Copy, R: Write, H: Hub, S: SideFiles, W: Write>(
     service: &mut Service<A, R, H, S>,
     connections: &mut Connections<H::Conn>,
@@ -47,7 +48,7 @@ pub(crate) fn take_in<A: Allocator + Copy, R: Write, H: Hub, S: SideFiles, W: Wr
     Ok(())
 }
 
-/// Clients are read, and those that sent bytes get their side files.
+/// Reads clients, and puts the side files of those that sent bytes into their stores.
 fn read_and_fill<A: Allocator + Copy, R: Write, H: Hub, S: SideFiles>(
     hub: &mut H,
     recorded: &mut Recorded<A, R>,
@@ -63,8 +64,8 @@ fn read_and_fill<A: Allocator + Copy, R: Write, H: Hub, S: SideFiles>(
     fill_all(recorded, seats, side);
 }
 
-/// Takes the clients in while their shares of the server's time last: connections are accepted, clients are read, and those that sent bytes get their
-/// side files.
+/// Takes the clients in while their shares of the server's time last: accepts connections, reads
+/// clients, and puts the side files of those that sent bytes into their stores.
 pub(crate) fn take_shared_in<
     A: Allocator + Copy,
     R: Write,
@@ -94,7 +95,7 @@ pub(crate) fn take_shared_in<
     Ok(())
 }
 
-/// Clients are written to, and those that ended are closed.
+/// Writes to clients, and closes those that ended.
 pub(crate) fn give_out<A: Allocator + Copy, R: Write, H: Hub, S: SideFiles, W: Write>(
     service: &mut Service<A, R, H, S>,
     connections: &mut Connections<H::Conn>,

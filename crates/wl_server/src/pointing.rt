@@ -11,7 +11,7 @@ use std::alloc::Allocator;
 use std::io::Write;
 use wl_recording::PointerLine;
 
-/// Takes the lines that are due at this time, in their order.
+/// Takes the lines that are due at this time, in milliseconds, in their order.
 pub(crate) fn point_all<A: Allocator + Copy, R: Write>(
     recorded: &mut Recorded<A, R>,
     waiting: &mut Waiting<A>,
@@ -25,7 +25,7 @@ pub(crate) fn point_all<A: Allocator + Copy, R: Write>(
     }
 }
 
-/// The pointer goes where a line says, or a button is pressed or released, at the line's own time.
+/// Moves the pointer, or presses or releases a button, as a line says, at the line's own time.
 fn point<A: Allocator + Copy, R: Write>(recorded: &mut Recorded<A, R>, line: PointerLine)
     ensures { Takes (Points (line ∷ [])) recorded.old.session recorded.new.session }
 {

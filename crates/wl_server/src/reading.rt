@@ -50,7 +50,7 @@ fn read_seat<A: Allocator + Copy, R: Write, H: Hub>(
     }
 }
 
-/// Reads a client until it would block, but at most so often.
+/// Reads a client until it would block, but at most [`READS`] times.
 fn read_client<A: Allocator + Copy, R: Write, H: Hub>(
     hub: &mut H,
     recorded: &mut Recorded<A, R>,
@@ -69,7 +69,8 @@ fn read_client<A: Allocator + Copy, R: Write, H: Hub>(
     }
 }
 
-/// Reads once into the front of `buf`, and feeds what came. False where no more is to be read: it would block, or the client is gone.
+/// Reads once into the front of `buf`, and feeds what came. The answer is false if no more is to be
+/// read: it would block, or the client is gone.
 pub(crate) fn read_once<A: Allocator + Copy, R: Write, H: Hub>(
     hub: &mut H,
     recorded: &mut Recorded<A, R>,

@@ -41,7 +41,8 @@ pub struct Service<A: Allocator, R: Write, H, S> {
 }
 
 impl<A: Allocator, R: Write, H, S> Service<A, R, H, S> {
-    /// A session before its first turn. It takes no memory. Of the pointer lines those that are skipped or bad ask nothing.
+    /// A session before its first turn. It takes no memory. Pointer lines that are skipped or bad
+    /// ask nothing.
     pub fn new(
         recorded: Recorded<A, R>,
         hub: H,
@@ -62,19 +63,30 @@ impl<A: Allocator, R: Write, H, S> Service<A, R, H, S> {
     }
 }
 
-/// Takes one turn of a session with its clients' connections at this time: of the pointer's lines those that are due are taken, in their order up
-/// to the first that isn't: the pointer goes where each motion says, and buttons are pressed and released, at each line's own time; connections that
-/// wait are accepted, 32 at most, each a client's or closed at once; clients are read, one after another, 16 times each at most, and fed what each
-/// read gave; for those that sent bytes each live store gets its side file, from its start up to the store's size; a frame is shown; clients are
-/// written to, one after another, and the hub's answer is what was sent; and those that ended are closed, with their connections, once their bytes
-/// went out or a write failed.
+/// Takes one turn of a session with its clients' connections, at this time, in milliseconds:
+/// - the pointer's lines are taken in their order, up to the first that isn't due. Each moves the
+///   pointer, or presses or releases a button, at its own time;
+/// - connections that wait are accepted, at most 32. Each becomes a client's, or is closed at once;
+/// - clients are read, one after another, at most 16 times each, and fed what each read gave;
+/// - clients that sent bytes get their side files: each live store, from its start up to the
+///   store's size;
+/// - a frame is shown;
+/// - clients are written to, one after another, and the hub's answer says what was sent;
+/// - clients that ended are closed, with their connections, once their bytes went out or a write
+///   failed.
 ///
-/// What it takes are steps of a session, event by event: the frame that it shows is the desktop as the frame began, painted from nothing, at
-/// each point that no window covers of a client that broke its promises (wayland.xml, wl_surface.damage and wl_buffer.release). Told are each client
-/// that connects, the frame where something was to be painted for it, with its image where images are wanted, and each client that is closed; nothing else.
+/// A turn takes steps of a session, event by event. Its frame is the desktop as the frame began,
+/// painted from nothing, at each point that no window covers of a client that broke its promises
+/// (wayland.xml, wl_surface.damage and wl_buffer.release).
 ///
-/// What fails of a connection ends its client, and is never answered. `Write` is answered where the report or the images couldn't be
-/// written; the steps that were taken stand, and are those that a turn begins with.
+/// The report has each client that connects, and each that is closed. It has the frame if something
+/// was to be painted for it, with its image if images are wanted. It has nothing else.
+///
+/// # Errors
+///
+/// `Write` if the report or the images couldn't be written. The steps that were taken stand, and
+/// are those that a turn begins with. A connection that fails ends its client, and is never an
+/// error.
 pub fn turn<A: Allocator + Copy, R: Write, H: Hub, S: SideFiles, W: Write, P: Write>(
     service: &mut Service<A, R, H, S>,
     connections: &mut Connections<H::Conn>,
@@ -117,16 +129,22 @@ fn take_phases<A: Allocator + Copy, R: Write, H: Hub, S: SideFiles, W: Write, P:
     give_out(service, connections, report)
 }
 
-/// Takes one turn as [`turn`] does, with a viewer (`wl_viewer`): behind the pointer's lines the viewer is written to and read, and the pointer does
-/// what its lines ask, at this time; a connection of its hub that waits gets the place where nobody has it, and else is closed at once. Behind the
-/// frame's damage one update of all that the viewer wasn't told is made, in the pixels of that frame, where nothing waits to be sent to it; and at the
-/// end of the turn it is answered, and written to until it would block. One that ends or fails, that sends a line which is none, or for which memory is
-/// refused, loses its place: the buttons that it holds are released, and its connection is closed.
+/// Takes one turn as [`turn`] does, with a viewer (`wl_viewer`):
+/// - behind the pointer's lines, the viewer is written to and read, and the pointer does what its
+///   lines ask, at this time. A connection of its hub that waits gets the place if nobody has it,
+///   and else is closed at once;
+/// - behind the frame, one update of all that the viewer wasn't told is made, in the pixels of that
+///   frame, if nothing waits to be sent to it;
+/// - at the end of the turn it is answered, and written to until it would block.
 ///
-/// Whoever copies the pixels of each whole update holds the frame of the tick at the update's time, in which each point is the desktop painted from
-/// nothing where no window covers it of a client that broke its promises.
+/// A viewer loses its place if it ends or fails, sends a bad line, or is refused memory. The
+/// buttons that it holds are released, and its connection is closed.
 ///
-/// Nothing of the viewer is told on the report, and nothing of it is answered.
+/// Whoever copies the pixels of each whole update holds the frame of the tick at the update's time.
+/// Each point of that is the desktop painted from nothing, if no window covers it of a client that
+/// broke its promises.
+///
+/// Neither the report nor the answer tells anything of the viewer.
 pub fn turn_viewed<A: Allocator + Copy, R: Write, H: Hub, S: SideFiles, V: Hub, W: Write, P: Write>(
     service: &mut Service<A, R, H, S>,
     connections: &mut Connections<H::Conn>,
@@ -156,7 +174,8 @@ pub fn turn_viewed<A: Allocator + Copy, R: Write, H: Hub, S: SideFiles, V: Hub, 
     Ok(())
 }
 
-/// Serves the clients, and the viewer is told of the frame: the phases of a turn, but those of the pointer's lines and of the viewer's connection.
+/// Serves the clients, and tells the viewer of the frame: the phases of a turn, except those of the
+/// pointer's lines and of the viewer's connection.
 fn take_viewed_phases<
     A: Allocator + Copy,
     R: Write,

@@ -28,10 +28,13 @@ use std::io::Write;
 use std::time::Clock;
 use wl_recording::SideFiles;
 
-/// Takes one turn as [`turn`](crate::turn) does, whose clients share the server's time: each is read while its share lasts, once at least and 16
-/// times at most, and what it sent besides waits for the next turn. What it took it owes, and it isn't read while it owes more than
-/// the time since the last turn pays; so one that is alone has all the time, and none holds up the others. Where the clock tells no time,
-/// nothing is owed.
+/// Takes one turn as [`turn`](crate::turn) does, in which clients share the server's time. Each is
+/// read while its share lasts, between once and 16 times. What else it sent waits for the next
+/// turn.
+///
+/// A client owes the time that it took. It isn't read while it owes more than the time since the
+/// last turn pays. So one that is alone has all the time, and none holds up the others. If the
+/// clock tells no time, nothing is owed.
 pub fn shared_turn<
     A: Allocator + Copy,
     R: Write,

@@ -139,7 +139,8 @@ fn count_of<C: Drop>(seats: &[Option<Seat<C>>]) -> u64 {
     count
 }
 
-/// Serves each client while its share lasts, one after another: it is read, and its stores get their side files.
+/// Serves each client while its share lasts, one after another: reads it, and puts its side files
+/// into its stores.
 pub(crate) fn share_all<A: Allocator + Copy, R: Write, H: Hub, S: SideFiles, K: Clock>(
     shares: &mut Shares<'_, K>,
     hub: &mut H,
@@ -215,7 +216,8 @@ fn charge<C: Drop>(seat: &mut Option<Seat<C>>, piece: usize, debt: u64)
     }
 }
 
-/// Reads a client, if it has a connection, while this share lasts, and answers by pieces of which size it is to be read on.
+/// Reads a client, if it has a connection, while this share lasts. The answer is the size of the
+/// pieces by which it is to be read next.
 fn read_seat<A: Allocator + Copy, R: Write, H: Hub, K: Clock>(
     share: Share<'_, K>,
     begun: Option<Instant>,
@@ -263,7 +265,8 @@ fn owes<C: Drop>(seat: &Seat<C>, paid: u64) -> bool
     seat.debt > paid
 }
 
-/// Reads a client until it would block, or its share is over, but at most so often: by pieces that grow while they are cheap.
+/// Reads a client until it would block, or its share is over, but at most [`READS`] times. Pieces
+/// grow while they are cheap.
 fn read_client<A: Allocator + Copy, R: Write, H: Hub, K: Clock>(
     share: Share<'_, K>,
     begun: Option<Instant>,

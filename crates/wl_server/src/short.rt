@@ -21,12 +21,16 @@ use std::io::Write;
 use std::time::Clock;
 use wl_recording::SideFiles;
 
-/// Takes a short turn, between two frames: connections that wait are accepted; clients are read, and fed what each read gave; those that sent
-/// bytes get their side files; clients are written to; and those that ended are closed, as [`shared_turn`](crate::shared_turn) does each. No line of the
-/// pointer's file is taken, and no frame is shown.
+/// Takes a short turn, between two frames. Connections that wait are accepted, and clients are read
+/// and fed what each read gave. Those that sent bytes get their side files. Clients are written to,
+/// and those that ended are closed. All is done as in [`shared_turn`](crate::shared_turn).
 ///
-/// It answers whether anybody connected or sent bytes, so that another one may be wanted at once. `Write` is answered where the report
-/// couldn't be written.
+/// No line of the pointer's file is taken, and no frame is shown. The answer is whether anybody
+/// connected or sent bytes, so another short turn may be wanted at once.
+///
+/// # Errors
+///
+/// `Write` if the report couldn't be written.
 pub fn short_turn<A: Allocator + Copy, R: Write, H: Hub, S: SideFiles, K: Clock, W: Write>(
     shares: &mut Shares<'_, K>,
     service: &mut Service<A, R, H, S>,
@@ -44,13 +48,15 @@ pub fn short_turn<A: Allocator + Copy, R: Write, H: Hub, S: SideFiles, K: Clock,
     serve_between(shares, service, connections, report)
 }
 
-/// Takes a short turn as [`short_turn`] does, with a viewer: first the viewer is written to and read, and the pointer does what its lines ask, at this
-/// time; and a connection of its hub that waits gets the place where nobody has it, as [`shared_turn_viewed`](crate::shared_turn_viewed) does. It is told of no frame
-/// and answered nothing.
+/// Takes a short turn as [`short_turn`] does, with a viewer. First the viewer is written to and
+/// read, and the pointer does what its lines ask, at this time. A connection of its hub that waits
+/// gets the place if nobody has it, as in [`shared_turn_viewed`](crate::shared_turn_viewed). The
+/// viewer is told of no frame, and nothing is answered.
 ///
-/// Whoever copies the pixels of each whole update holds the last frame on, but for what the viewer wasn't told.
+/// Whoever copies the pixels of each whole update still holds the last frame, except for what the
+/// viewer wasn't told.
 ///
-/// It answers whether anybody connected or sent bytes, or the viewer took some.
+/// The answer is whether anybody connected or sent bytes, or the viewer took some.
 pub fn short_turn_viewed<
     A: Allocator + Copy,
     R: Write,
@@ -89,7 +95,7 @@ fn owed_bytes<A: Allocator + Copy, V, C: Drop>(viewing: &Viewing<A, V, C>) -> us
     }
 }
 
-/// Serves the clients, without a frame. True where anybody connected or sent bytes.
+/// Serves the clients, without a frame. The answer is true if anybody connected or sent bytes.
 fn serve_between<A: Allocator + Copy, R: Write, H: Hub, S: SideFiles, K: Clock, W: Write>(
     shares: &mut Shares<'_, K>,
     service: &mut Service<A, R, H, S>,

@@ -20,7 +20,8 @@ use std::io::Write;
 use wl_recording::{write_frame, write_image};
 use wl_session::Session;
 
-/// Shows a frame at this time, which is recorded, and tells of it where something was damaged. What is recorded up to it isn't held back.
+/// Shows a frame at this time, which is recorded, and tells of it where something was damaged. What
+/// is recorded up to it isn't held back.
 pub(crate) fn show<A: Allocator + Copy, R: Write, W: Write, P: Write>(
     recorded: &mut Recorded<A, R>,
     time: u32,
@@ -38,7 +39,7 @@ pub(crate) fn show<A: Allocator + Copy, R: Write, W: Write, P: Write>(
     recorded.flush()
 }
 
-/// Shows a frame at this time, and tells of it where something was damaged.
+/// Shows a frame at this time, in milliseconds, and reports it if something was damaged.
 fn show_frame<A: Allocator + Copy, W: Write, P: Write>(
     session: &mut Session<A>,
     time: u32,

@@ -28,7 +28,8 @@ use wl_recording::{write_frame, write_image};
 use wl_session::{Damage, Framebuffer, Session};
 use wl_viewer::{Viewer, WindowLine};
 
-/// Shows a frame at this time, which is recorded, and of which the viewer is told, and tells of it where something was damaged.
+/// Shows a frame at this time, which is recorded, and of which the viewer is told, and tells of it
+/// where something was damaged.
 pub(crate) fn show_viewed<A: Allocator + Copy, R: Write, C: Drop, W: Write, P: Write>(
     recorded: &mut Recorded<A, R>,
     place: &mut Option<Watcher<A, C>>,
@@ -46,7 +47,8 @@ pub(crate) fn show_viewed<A: Allocator + Copy, R: Write, C: Drop, W: Write, P: W
     recorded.flush()
 }
 
-/// Shows a frame at this time, of which the viewer is told, and tells of it where something was damaged.
+/// Shows a frame at this time, in milliseconds, and tells the viewer. It reports the frame if
+/// something was damaged.
 fn show_viewed_frame<A: Allocator + Copy, C: Drop, W: Write, P: Write>(
     session: &mut Session<A>,
     place: &mut Option<Watcher<A, C>>,
@@ -114,7 +116,8 @@ fn is_fit<A: Allocator + Copy, C: Drop>(
     !watcher.has_failed && watcher.viewer.is_as_large(frame, damage)
 }
 
-/// The viewer is answered what is due, and written to; it leaves where it ended or failed, and once it read that a line was bad.
+/// Answers the viewer what is due, and writes to it. It loses its place if it ended or failed, and
+/// once it read that a line was bad.
 pub(crate) fn tell<A: Allocator + Copy, R: Write, V: Hub>(
     hub: &mut V,
     place: &mut Option<Watcher<A, V::Conn>>,

@@ -41,7 +41,7 @@ fn write_seat<A: Allocator + Copy, R: Write, H: Hub>(
     }
 }
 
-/// Writes to a client until it would block. Where a write fails, the client is gone.
+/// Writes to a client until it would block. If a write fails, the client is gone.
 fn write_client<A: Allocator + Copy, R: Write, H: Hub>(
     hub: &mut H,
     recorded: &mut Recorded<A, R>,
