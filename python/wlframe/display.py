@@ -78,9 +78,9 @@ class Display(Pointer, Typist, Expecting):
         view: bool | View = False,
     ):
         if len(size) != 2 or not all(1 <= side <= 4096 for side in size):
-            raise ValueError(f"size {size}: a display has two sides from 1 to 4096")
+            raise ValueError(f"size {size}: give two sides from 1 to 4096")
         if not 1 <= rate <= 1000:
-            raise ValueError(f"rate {rate}: it is from 1 to 1000 frames a second")
+            raise ValueError(f"rate {rate}: give 1 to 1000 frames a second")
         self.size, self.rate, self.record, self.trace = tuple(size), rate, record, trace
         self.asked_program, self.fullscreen, self.env, self.pointer_file = program, fullscreen, dict(env or {}), pointer
         self.view = View() if view is True else view or None
@@ -119,7 +119,7 @@ class Display(Pointer, Typist, Expecting):
     def start(self) -> None:
         """Starts server and bridge. Whoever calls it calls close."""
         program = programs.find(self.asked_program, self.tell)
-        programs.need(program, "--viewer", "it is seen what a client shows")
+        programs.need(program, "--viewer", "see what clients show")
         self.household = Household()
         self.told, self.said, self.server_said = Tail("report"), Tail("bridge"), Tail("server")
         self.report = Report(self.told, self.report_to)
@@ -179,7 +179,7 @@ class Display(Pointer, Typist, Expecting):
         if self.pointer_file:
             words += ["--pointer", os.path.abspath(self.pointer_file)]
         if self.record:
-            programs.need(program, "--record", "what was served is recorded")
+            programs.need(program, "--record", "record what is served")
             words += ["--record", folder / "recording" if self.record is True else os.path.abspath(self.record)]
         self.server = self.begin(words, self.told, self.server_said)
 
@@ -229,14 +229,14 @@ class Display(Pointer, Typist, Expecting):
     def need_open(self) -> None:
         """Raises where the display isn't open."""
         if self.household is None:
-            raise Failure("the display is closed, or wasn't started: with wlframe.Display(..) as display:")
+            raise Failure("the display is closed, or wasn't started: use it within `with wlframe.Display(..) as display:`")
 
     # Clients.
 
     def run(self, *words: str | os.PathLike, env: typing.Mapping[str, str] | None = None, folder: str | os.PathLike | None = None) -> Client:
         """Starts a client by the words of its command, and doesn't wait for a window of it. NotStarted where it isn't there or may not be run."""
         if not words:
-            raise ValueError("which client? run takes the words of its command")
+            raise ValueError("which client? Give run the words of its command")
         self.need_open()
         whole = surroundings.environment(self.folder, {**self.env, **(env or {})})
         named = [os.fspath(it) for it in words]
@@ -399,7 +399,7 @@ class Display(Pointer, Typist, Expecting):
     def need_window(self) -> None:
         self.ask(windows=True)
         if not self.viewer.windows.shown:
-            raise NoWindow("a click is for a window, and none is shown yet: wait for it by display.window(..)", [])
+            raise NoWindow("a click needs a window, and none is shown yet: wait for one by display.window(..)", [])
 
     def wait_for(self, predicate: typing.Callable[[Picture], typing.Any], timeout: float = 5.0) -> typing.Any:
         """Waits until the predicate of the picture is true, which is asked anew where the picture changes. Answers what it answered."""

@@ -45,14 +45,14 @@ class View:
         """The password, if there is one. Failure where the file can't be read or has none, or where everybody could look without one."""
         if self.password is None:
             if not is_own(self.host):
-                raise Failure(f"{self.host} isn't of this machine alone: a view there needs a password, by a file")
+                raise Failure(f"other machines can reach {self.host}: a view there needs a password, from a file")
             return None
         try:
             found = pathlib.Path(self.password).read_text(encoding="utf-8").partition("\n")[0].strip()
         except (OSError, UnicodeDecodeError) as fault:
             raise Failure(f"{self.password}: the password can't be read: {getattr(fault, 'strerror', fault)}") from None
         if not found:
-            raise Failure(f"{self.password}: its first line is no password")
+            raise Failure(f"{self.password}: its first line has to be a password")
         return found
 
 

@@ -86,7 +86,7 @@ class Controls(unittest.TestCase):
         process = self.run_lamp("--keys")
         self.assertEqual(self.ctl("resize", "20", "10", "--window", "Lamp", "--timeout", "60"), (0, "", ""))
         wait_for(lambda: self.ctl("windows")[1].startswith("20x10 "), "the window has its old size")
-        self.assertEqual(self.ctl("paste"), (1, "", "ctl: no text is copied\n"))
+        self.assertEqual(self.ctl("paste"), (1, "", "ctl: nothing was copied, or no text\n"))
         self.assertEqual(self.ctl("copy", "née\n"), (0, "", ""))
         self.assertEqual(self.ctl("paste"), (0, "née\n", ""))
         if WHY_NOT:
@@ -111,10 +111,10 @@ class Controls(unittest.TestCase):
             (["click", "1", "1", "--window", "Other", "--timeout", "0.1"], 124, 'with the title "Other" wasn\'t shown'),
             (["click", "40", "1", "--window", "Lamp"], 1, "40, 1 isn't within \"Lamp\""),
             (["move", "64", "1"], 1, "64, 1 isn't within the display of 64x48"),
-            (["click", "1", "1", "--button", "fourth"], 1, "fourth: a button is a number, or one of left"),
+            (["click", "1", "1", "--button", "fourth"], 1, "fourth: give a button by its number, or as one of left"),
             (["shot", "missing/shot.png"], 1, "missing/shot.png"),
             (["wait-idle", "--seconds", "100", "--timeout", "0.1"], 124, "didn't stay the same for 100 seconds in 0.1"),
-            (["wait-idle", "--ignore", "1,2"], 2, "a box is X,Y,W,H"),
+            (["wait-idle", "--ignore", "1,2"], 2, "write a box as X,Y,W,H"),
             (["press", "1"], 2, "invalid choice: 'press'"),
         ]:
             done = self.ctl(*words)
@@ -122,10 +122,10 @@ class Controls(unittest.TestCase):
             self.assertIn(said, done[2])
 
     def test_no_display(self):
-        self.assertEqual(self.ctl("windows"), (1, "", f"ctl: {self.control}: no display is there: No such file or directory\n"))
+        self.assertEqual(self.ctl("windows"), (1, "", f"ctl: {self.control}: no display answers there: No such file or directory\n"))
         status, _, said = self.ctl("windows", environment={})
         self.assertEqual(status, 2)
-        self.assertIn("which display? --control PATH names its socket, or WLFRAME_VIEWER in the environment", said)
+        self.assertIn("which display? Name its socket by --control PATH, or by WLFRAME_VIEWER in the environment", said)
 
     def test_client_that_controls_itself(self):
         """A script under tools/run finds the display by its environment."""
@@ -151,7 +151,7 @@ class Controls(unittest.TestCase):
         self.control.write_text("kept")
         words = [sys.executable, TOOLS / "run", "--size", "64x48", "--control", self.control, "--", *LAMP]
         done = subprocess.run(words, env=self.environment, capture_output=True, text=True, check=False, timeout=PATIENCE)
-        self.assertEqual((done.returncode, done.stderr), (125, f"run: {self.control}: no socket can be made there: Address already in use\n"))
+        self.assertEqual((done.returncode, done.stderr), (125, f"run: can't make a socket at {self.control}: Address already in use\n"))
         self.assertEqual(self.control.read_text(), "kept")
         self.control.unlink()
 

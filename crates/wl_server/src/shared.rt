@@ -76,7 +76,8 @@ fn take_phases<A: Allocator + Copy, H: Hub, S: SideFiles, K: Clock, W: Write, P:
     give_out(service, connections, report)
 }
 
-/// Takes one turn with a viewer as [`turn_viewed`](crate::turn_viewed) does, whose clients share the server's time as those of [`shared_turn`] do.
+/// Takes one turn with a viewer as [`turn_viewed`](crate::turn_viewed) does, in which clients share
+/// the server's time as in [`shared_turn`].
 pub fn shared_turn_viewed<
     A: Allocator + Copy,
     H: Hub,
@@ -115,7 +116,8 @@ pub fn shared_turn_viewed<
     Ok(())
 }
 
-/// Serves the clients, and the viewer is told of the frame: the phases of a turn, but those of the pointer's lines and of the viewer's connection.
+/// Serves the clients, and tells the viewer of the frame: the phases of a turn, except those of the
+/// pointer's lines and of the viewer's connection.
 fn take_viewed_phases<
     A: Allocator + Copy,
     H: Hub,

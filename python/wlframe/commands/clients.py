@@ -382,17 +382,17 @@ def page(outcomes, missing, more=()):
 
 def main():
     parser = argparse.ArgumentParser(description="Tries real clients under wlframe, one after another.")
-    parser.add_argument("names", nargs="*", metavar="NAME", help="which (all that are installed)")
-    parser.add_argument("--write", metavar="FILE", help="the page to write")
-    parser.add_argument("--pictures", metavar="FOLDER", help="keep the last frame of each")
-    parser.add_argument("--seconds", type=float, default=1.0, metavar="S", help="let each run so many times as long (1)")
+    parser.add_argument("names", nargs="*", metavar="NAME", help="a client of the list (all that are installed)")
+    parser.add_argument("--write", metavar="FILE", help="write what came of it to this page")
+    parser.add_argument("--pictures", metavar="FOLDER", help="keep the last frame of each client there")
+    parser.add_argument("--seconds", type=float, default=1.0, metavar="S", help="let each client run so many times as long (1)")
     asked = parser.parse_args()
     if asked.pictures:
         os.makedirs(asked.pictures, exist_ok=True)
     known = read_clients()
     unknown = [name for name in asked.names if not any(name in it.command.split() for it in known)]
     if unknown:
-        parser.error(f"{unknown[0]}: the list has no such client; tools/run -- {unknown[0]} runs any")
+        parser.error(f"{unknown[0]} is no client of the list; `tools/run -- {unknown[0]}` runs any program")
     clients = [it for it in known if not asked.names or any(name in it.command.split() for name in asked.names)]
     outcomes = []
     for client in filter(is_installed, clients):
