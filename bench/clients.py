@@ -38,6 +38,7 @@ CLIENTS = {
     "terminal that scrolls": (LARGE, ["foot", "sh", "-c", "while :; do seq 1000; done"]),
     "terminal that blinks": (LARGE, ["foot", "-o", "cursor.blink=yes", "sleep", "1000"]),
     "weston-simple-shm": (LARGE, "weston-simple-shm"),
+    "40 by 30 points of 1080p": (LARGE, "frames_client 1920 1080 1000000 40 30"),  # bench/peers has it
 }
 
 
@@ -141,12 +142,15 @@ def main():
         command = command.split() if isinstance(command, str) else command
         if asked.only not in name:
             continue
-        if not shutil.which(command[0]):
-            print(f"{name}: {command[0]} isn't installed", flush=True)
+        needs = "wayland-scanner" if command[0] == "frames_client" else command[0]
+        if not shutil.which(needs):
+            print(f"{name}: {needs} isn't installed", flush=True)
             continue
         with tempfile.TemporaryDirectory() as folder:
             room = pathlib.Path(folder)
             os.chmod(room, 0o700)
+            if command[0] == "frames_client":
+                command = [str(weston.build(room)), *command[1:]]
             measured = under_wlframe(room, asked, size, command)
             if measured is None:
                 told = f"{name}: it shows nothing, or ends"

@@ -1,8 +1,9 @@
-/* A client that commits a whole window for each frame that it is shown.
+/* A client that commits a whole window for each frame that it is shown, or changes a part of it.
  *
- *     frames_client WIDTH HEIGHT FRAMES
+ *     frames_client WIDTH HEIGHT FRAMES [PART_WIDTH PART_HEIGHT]
  *
- * It shows two buffers of WIDTH by HEIGHT in turns, each with damage of all of it, and ends after FRAMES frame callbacks. */
+ * It shows two buffers of WIDTH by HEIGHT in turns, each with damage of all of it, and ends after FRAMES frame callbacks. With a part it draws that part of
+ * each, at the corner, in another colour each time, and damages it alone. */
 #define _GNU_SOURCE
 #include <stdio.h>
 #include <stdlib.h>
@@ -17,7 +18,8 @@ static struct wl_shm *shm;
 static struct xdg_wm_base *base;
 static struct wl_surface *surface;
 static struct wl_buffer *buffers[2];
-static int width, height, left_to_show, shown;
+static int width, height, left_to_show, shown, part_width, part_height;
+static unsigned *pixels;
 
 static void fail(const char *what)
 {
@@ -39,12 +41,22 @@ static void done(void *data, struct wl_callback *callback, uint32_t time)
 
 static const struct wl_callback_listener on_done = {done};
 
+static void draw_part(unsigned *buffer)
+{
+    for (int y = 0; y < part_height; y++)
+        for (int x = 0; x < part_width; x++)
+            buffer[y * width + x] = shown * 0x010305u;
+}
+
 static void commit(void)
 {
     wl_callback_add_listener(wl_surface_frame(surface), &on_done, NULL);
-    wl_surface_attach(surface, buffers[shown++ % 2], 0, 0);
-    wl_surface_damage(surface, 0, 0, width, height);
+    if (part_width)
+        draw_part(pixels + (long)(shown % 2) * width * height);
+    wl_surface_attach(surface, buffers[shown % 2], 0, 0);
+    wl_surface_damage(surface, 0, 0, part_width && shown ? part_width : width, part_width && shown ? part_height : height);
     wl_surface_commit(surface);
+    shown++;
 }
 
 static void ping(void *data, struct xdg_wm_base *at, uint32_t serial)
@@ -104,11 +116,15 @@ int main(int count, char **words)
     struct xdg_surface *shell_surface;
     int bytes, file;
 
-    if (count != 4)
+    if (count != 4 && count != 6)
         return 2;
     width = atoi(words[1]);
     height = atoi(words[2]);
     left_to_show = atoi(words[3]);
+    if (count == 6) {
+        part_width = atoi(words[4]);
+        part_height = atoi(words[5]);
+    }
     bytes = 4 * width * height;
     display = wl_display_connect(NULL);
     if (!display)
@@ -119,6 +135,9 @@ int main(int count, char **words)
     file = memfd_create("frames", 0);
     if (!compositor || !shm || !base || file < 0 || ftruncate(file, 2 * bytes) < 0)
         fail("globals");
+    pixels = mmap(NULL, 2 * (size_t)bytes, PROT_READ | PROT_WRITE, MAP_SHARED, file, 0);
+    if (pixels == MAP_FAILED)
+        fail("mmap");
     pool = wl_shm_create_pool(shm, file, 2 * bytes);
     buffers[0] = wl_shm_pool_create_buffer(pool, 0, width, height, 4 * width, WL_SHM_FORMAT_XRGB8888);
     buffers[1] = wl_shm_pool_create_buffer(pool, bytes, width, height, 4 * width, WL_SHM_FORMAT_XRGB8888);

@@ -135,7 +135,7 @@ class Connects(unittest.TestCase):
         viewer.send("motion 1 2", "windows", f"sync {viewer.next_number()}")
         self.until(viewer, lambda: viewer.synced.number == 1)
         self.assertEqual(server.lines, ["motion 1 2", "windows", "sync 1"])
-        self.assertEqual((viewer.updates, viewer.changed, viewer.lists), (1, 1, 1))
+        self.assertEqual((viewer.updates, viewer.lists), (1, 1))
         self.assertEqual(viewer.windows.shown, [Shown(1, 6, 0, 0, 4, 3)])
         self.assertEqual(viewer.frame.picture().pixel(1, 2), (255, 0, 0))
 

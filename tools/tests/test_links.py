@@ -226,6 +226,21 @@ class Liars(WithRig):
         self.assertEqual(select.select(silent, [], [], 0)[0], silent[:16])
 
 
+class LiarsByRanges(Liars):
+    """The same where the server reads the ranges that the bridge tells of."""
+
+    options = ("--trace", "trace")
+
+    def test_ranges_are_told(self):
+        self.assertTrue((self.rig.pools / f"{self.number()}.r").exists())
+
+
+class LiarsWhole(Liars):
+    """The same where the bridge copies."""
+
+    options = ("--whole", "--trace", "trace")
+
+
 class Unfit(WithRig):
     """Descriptors that are no shared memory."""
 

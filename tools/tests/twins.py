@@ -163,7 +163,7 @@ class Twins:
         self.connections: list[Connection] = []
         self.fault: BaseException | None = None
         self.is_resting, self.rests, self.is_over = False, threading.Event(), False
-        self.seen: set[bytes] = set()  # the pictures that had anything in them
+        self.seen: set[bytes] = set()  # the pictures since a client showed something
         self.compared = 0  # how often pictures were
 
     def __enter__(self) -> "Twins":
@@ -271,7 +271,7 @@ class Twins:
         """Whether both displays show the same of all that the clients asked so far."""
         with self.resting():
             pictures = [it.picture().pixels for it in self.displays]
-        if any(pictures[0]):
+        if self.displays[0].has_shown:
             self.seen.add(pictures[0])
         self.compared += 1
         return pictures[0] == pictures[1]

@@ -91,7 +91,7 @@ class Show:
 
     def __init__(self, asked, display):
         self.display, self.count, self.ignore = display, 0, asked.ignore
-        self.changed = None  # when the picture last became another one
+        self.is_watched, self.changed = bool(asked.until_idle), None  # whether and when the picture last became another one
         self.is_numbered = bool(asked.frames)
         self.last = Last(asked.png) if asked.png else None
         kinds = [(Folder, asked.frames), (Film, asked.film)]
@@ -99,7 +99,8 @@ class Show:
 
     def begin(self):
         """Frames count from now on."""
-        self.display.viewer.before.append(self.before)
+        if self.is_watched:
+            self.display.viewer.before.append(self.before)
         self.display.viewer.after.append(self.after)
 
     def before(self, frame, update):
