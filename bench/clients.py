@@ -3,10 +3,13 @@
 
     bench/clients.py [--program FILE] [--seconds S] [--size WxH] [--weston] [--only WORD]
 
-Each client that is installed runs under tools/run for some seconds (10), which sees it by the viewer's socket. Told are the frames a second in which
-something was painted, by the server's report, and the processor time of a frame in milliseconds: the server's, the bridge's and that of tools/run, with
-the system's for them. With --weston the same client runs under weston's headless compositor with its pixman renderer, right behind: told are its commits
-a second, by WAYLAND_DEBUG, and weston's time for each.
+Each installed client runs under tools/run for some seconds (10). A line tells how many frames a
+second painted something, by the server's report. Then it tells the processor milliseconds of a
+frame: of the server, of the bridge and of tools/run, each with the system's time for it.
+
+--weston runs the same client afterwards under weston's headless compositor with its pixman
+renderer. Then the line also tells its commits a second, by WAYLAND_DEBUG, and weston's time for
+each.
 """
 import argparse
 import contextlib

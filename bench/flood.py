@@ -1,11 +1,15 @@
 #!/usr/bin/env python3
-"""Whether a client can slow others down for good: round trips of one client of `wlframe serve` before, during and after another's flood.
+"""Measures whether one client's flood slows another client of `wlframe serve` for good.
 
     bench/flood.py [--requests N] [--trips N]
 
-The other client sends N xdg_toplevel.set_title requests whose titles are full of the word 0x00100000, which is what the second word of a
-wl_shm.create_pool looks like, though it makes no pool. Each line is the median of so many round trips (wl_display.sync and its two events), in
-microseconds. After the flood they are to take as long as before it. The program has to be built before (`./wlframe --help` builds it).
+One client makes round trips (wl_display.sync and its two events) before, during and after the
+other's flood. Each line is their median in microseconds. After the flood they should take as long
+as before.
+
+The flood is N xdg_toplevel.set_title requests, whose titles are full of the word 0x00100000. That
+is how the second word of a wl_shm.create_pool looks, but no pool is made. Build the program first
+(`./wlframe --help`).
 """
 import argparse
 import statistics

@@ -3,19 +3,27 @@
 
     bench/frames.py [--ticks N] [--rounds N] [--only WORDS]
 
-It writes recordings of clients with a window each, whose every tick is preceded by a commit of all of them, and plays them by the built program: one
-client with a window of the whole output that damages all of it, 8 by 8 points, or one; the same whole window in each format, in argb8888 opaque by
-its pixels, by its region, half through and letting all through, and in xrgb8888 turned, flipped and at scale 2; 8 such windows on each other of which
-the topmost commits; one client with a window of 8 by 8 points; 8 and 32 clients with such windows; ticks for which nobody committed; ticks before
-each of which the last of 1, 8 or 32 clients with such windows went and came again; and a toplevel of 128 by 128 with 1, 16 and 255 subsurfaces of 8
-by 8 points, beside each other or each the child of the one before, of which the last commits before each tick: at once, or held until its toplevel's
-commit; and the same toplevel with 1 and 16 popups of 8 by 8 points, of which the last commits before each tick, or all move with the toplevel's
-window geometry. Each is played with few and with many ticks, one right after the other, and the difference is divided by the ticks between them, so
-that starting the program, making the image and mapping the windows aren't counted.
+It writes recordings and plays them by the built program. Before each tick clients commit. A line is
+one of these:
 
-Times are processor time, the program's own and the system's for it: the median of the rounds, with the least and the greatest. Pictures aren't
-written but in the last line, which has frames as PPM, beside a copy of as many bytes and their writing to a file in memory. The report goes
-to /dev/null. --only leaves out what doesn't have these words in its name.
+- one client with a window of the whole output: it damages all of it, 8 by 8 points, or one;
+- the same window in each format: argb8888 opaque by its pixels, opaque by its region, half through
+  and all through; xrgb8888 turned, flipped and at scale 2;
+- 8 such windows on each other, of which the topmost commits;
+- 1, 8 and 32 clients with a window of 8 by 8 points; of these the last one goes and comes again;
+- nobody commits;
+- a toplevel of 128 by 128 with 1, 16 and 255 subsurfaces of 8 by 8 points, of which the last
+  commits, desynchronised or synchronised; 16 also as a chain, each the child of the one before;
+- the same toplevel with 1 and 16 popups of 8 by 8 points: the last commits, or all move with the
+  toplevel's window geometry.
+
+Each is played with few and with many ticks, one right after the other. The difference is divided by
+the ticks between them. So the program's start, the image and the mapping of windows don't count.
+
+Times are processor time, the program's own and the system's for it: the median of the rounds, with
+the least and the greatest. Only the last line writes pictures: frames as PPM, beside a copy of as
+many bytes and their writing to a file in memory. The report goes to /dev/null. --only measures the
+lines whose names have these words.
 """
 import argparse
 import os

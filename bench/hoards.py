@@ -3,9 +3,16 @@
 
     bench/hoards.py [--program FILE] [--only WORD]
 
-Each line is what `wlframe replay` has in memory at most while a client hoards: pools that are written beside as many zeros, objects that are regions of 512
-changes, wl_surfaces with regions and damage that are pending, held and applied, toplevels with 64 configures each, and positioners. What it has for a client
-that only binds its globals is taken off. Beside it stands what the limits come to, without what a growing list or a map has room for.
+Each line is the most that `wlframe replay` has in memory while a client hoards one kind of thing:
+
+- pools that are written, beside as many zeros;
+- objects that are regions of 512 changes;
+- wl_surfaces with regions and damage that are pending, held and applied;
+- toplevels with 64 configures each;
+- positioners.
+
+What a client costs that only binds its globals is taken off. Beside it stands what the limits come
+to. That leaves out the room that a growing list or a map has to spare.
 """
 import argparse
 import os

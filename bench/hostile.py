@@ -1,19 +1,22 @@
 #!/usr/bin/env python3
-"""Hostile clients for bench/soak, by kinds: what each sends, and a crowd of 31 of them. As a command it measures what a message of the dear kinds costs.
+"""Hostile clients for bench/soak, by kinds. As a command it measures what one message of the dear kinds costs.
 
     bench/hostile.py [--program FILE] [--kinds KIND,..] [--most N]
 
     --program FILE    the program wlframe, where it isn't the one that ./wlframe built
     --kinds KIND,..   which of them (all): stacks, large_stacks, moves, large_moves, hits, popups, damages, changes, copies, columns, opaque_columns,
                       translucent, first_pool, side_file
-    --most N          how many of a message are sent at most (16384)
+    --most N          send at most so many of a message (16384)
 
-It prints a table of processor milliseconds of the server: for a message, or for a tick that a message leads to, and for as many messages as the server reads
-of a client in a turn. A replay of few is taken from one of more, until the difference takes half a second. `side_file` is measured at `wlframe serve`.
+It prints a table of the server's processor milliseconds: for one message, or for the tick that it
+leads to. A column tells that of as many messages as the server reads of a client in a turn. It
+plays few messages and then more, until the difference takes half a second. `side_file` is measured
+at `wlframe serve`.
 
-A kind is a generator of what a connection sends, piece by piece, and of how many requests a piece is meant to be. It may go on for ever: the
-server ends most. Each connection asks for POOLS bytes of pools at most, but that of one place of the crowd, whose kinds are LARGE where any is asked for:
-it may ask for as many as there are. bench/costly.py has the kinds that send one dear message again and again.
+A kind is a generator: of the pieces that a connection sends, each with the number of requests that
+it is meant to be. It may go on for ever, since the server ends most. Each connection asks for POOLS
+bytes of pools at most. One place of the crowd is for kinds that are LARGE, which may ask for as
+many as there are. bench/costly.py has the kinds that send one dear message again and again.
 """
 import argparse
 import contextlib

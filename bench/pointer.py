@@ -3,15 +3,20 @@
 
     bench/pointer.py [--program FILE] [--commits N] [--motions N] [--rounds N] [--only WORDS]
 
-It writes recordings and plays them by the built program, or by the one that is named. Commits: one client attaches, damages 8 by 8 points and commits again and
-again, while 1, 100 or 1,000 toplevels of 320 by 320 points, of up to 250 each for a client, lie on each other: with the pointer nowhere, at a point of all of
-them, and at that point where none of them takes input there, so that each is looked at. No frame is shown in between. Motions: over 32 clients with a window of
-40 by 40 points and a wl_pointer each, beside each other, within one window and each to another one; over a window whose client has 7,000
-wl_pointers, all of which are told; and over 1,000 windows on each other that take no input.
+It writes recordings, and plays them by the built program or the one that is named.
 
-Each is played with few and with many commits or motions, one right after the other, and what is between them is divided by the difference. Times are processor
-time, the program's own and the system's for it: told is the median of the rounds, with the least and the greatest. The report goes to /dev/null.
---only leaves out what doesn't have these words in its name.
+- Commits: 1, 100 and 1,000 toplevels of 320 by 320 points lie on each other, up to 250 of one
+  client. One client attaches, damages 8 by 8 points and commits, again and again, and no frame is
+  shown. The pointer is nowhere, over all of them, or over all of them where none takes input.
+- Motions: over 32 windows of 40 by 40 points beside each other, each of a client with a wl_pointer.
+  They stay within one window, or go each to another.
+- Motions over a window whose client has 7,000 wl_pointers.
+- Motions over 1,000 windows on each other that take no input.
+
+Each is played with few and with many commits or motions, one right after the other. The difference
+is divided by those between them. Times are processor time, the program's own and the system's for
+it: the median of the rounds, with the least and the greatest. The report goes to /dev/null. --only
+measures the lines whose names have these words.
 """
 import argparse
 import itertools

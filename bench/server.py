@@ -1,13 +1,17 @@
 #!/usr/bin/env python3
-"""What `wlframe serve` costs: round trips over its socket, and turns with clients that do nothing.
+"""Measures what `wlframe serve` costs: round trips over its socket, and turns with idle clients.
 
     bench/server.py [--seconds S] [--turns N] [--idle S] [--peer]
 
-Round trips: 1 and 31 clients that each send wl_display.sync and read its two events before they send the next, and one that sends 1,000 of
-them at once and then reads all 2,000 events. Turns: how long N turns take with 0, 1 and 32 connections that send nothing. At a rate: how long a
-round trip takes at 60 and at 1,000 Hz, and which share of a processor the server takes at 60 Hz over S seconds with 0 and 32 connections that send
-nothing. With --peer the same clients ask libwayland's server too (bench/peers/libwayland_server.c), which needs a C compiler and Debian's
-libwayland-dev. The program has to be built before (`./wlframe --help` builds it).
+- Round trips: 1 and 31 clients each send wl_display.sync, and read its two events before they send
+  the next. One client sends 1,000 of them at once, and then reads all 2,000 events.
+- Turns: how long N turns take with 0, 1 and 32 connections that send nothing.
+- At a rate: how long a round trip takes at 60 and at 1,000 Hz.
+- At 60 Hz over S seconds: the server's share of a processor with 0 and 32 connections that send
+  nothing.
+
+--peer asks libwayland's server the same (bench/peers/libwayland_server.c). It needs a C compiler
+and Debian's libwayland-dev. Build the program first (`./wlframe --help`).
 """
 import argparse
 import os

@@ -1,11 +1,13 @@
 #!/usr/bin/env python3
-"""Whether a view of a display holds: a film in mpv over all of it, once without a view and once with one, at which a viewer looks.
+"""Measures whether a view of a display holds: mpv plays a film over all of it, with and without a view.
 
     bench/view.py [--program FILE] [--seconds S] [--without S] [--rounds N] [--size WxH] [--looks N]
 
-It prints the resident memory of each process after a tenth of the time, half of it and all, the processor time that the server takes for a frame, and the
-time between two frames. With a view it lasts --seconds (1800), without one --without (300), one after the other for so many rounds. The viewer looks N times
-a second (5).
+It prints each process's resident memory after a tenth of the time, half of it and all. It also
+prints the server's processor time for a frame, and the time between two frames.
+
+In each round it runs --without seconds (300) without a view, and then --seconds (1800) with one.
+There a viewer looks N times a second (5).
 """
 import argparse
 import os

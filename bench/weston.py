@@ -1,11 +1,13 @@
 #!/usr/bin/env python3
-"""Measures what a frame costs weston's headless compositor with its pixman renderer, beside bench/frames.py.
+"""Measures what a frame costs weston's headless compositor with its pixman renderer, to compare with bench/frames.py.
 
     bench/weston.py [--frames N] [--rounds N]
 
-One client commits its whole window for each frame (bench/peers/frames_client.c): of 1920 by 1080, and of 8 by 8 points, on an output of
-1920 by 1080. Told is weston's own processor time, with the system's for it, for each frame: the median of the rounds, with the least and
-the greatest. It needs weston, a C compiler, libwayland-dev, libwayland-bin and wayland-protocols (Debian's packages).
+On an output of 1920 by 1080 one client commits its whole window for each frame
+(bench/peers/frames_client.c): of 1920 by 1080, and of 8 by 8 points. A line tells weston's
+processor time for a frame, with the system's for it: the median of the rounds, with the least and
+the greatest. It needs weston, a C compiler, libwayland-dev, libwayland-bin and wayland-protocols of
+Debian.
 """
 import argparse
 import os

@@ -53,13 +53,13 @@ class Reads(unittest.TestCase):
             (b"P6\n4 3\n255\n", "no viewer's socket"),
             (b"wlframe 2 4 3\n", "version 2"),
             (GREETING + b"bad line\n", "couldn't read a line"),
-            (GREETING + b"picture 1\n", "no line of it"),
+            (GREETING + b"picture 1\n", "no line of that protocol"),
             (GREETING + b"frame 1 x\n", "number should stand"),
             (GREETING + b"windows 1\nwindow 1\n", "window should stand"),
             (GREETING + update(1, run(3, 0, RED, RED)), "not within 4x3"),
             (GREETING + update(1, run(0, 3, RED)), "not within 4x3"),
             (GREETING + update(1, run(0, 0)), "not within 4x3"),
-            (GREETING + b"x" * 200, "no line of it"),
+            (GREETING + b"x" * 200, "no line of that protocol"),
         ]:
             with self.assertRaisesRegex(Garbled, reason):
                 told(wrong)
@@ -157,7 +157,7 @@ class Connects(unittest.TestCase):
             self.until(viewer, lambda: False)
 
     def test_nobody_there(self):
-        with self.assertRaisesRegex(Failure, "no server shows itself there"):
+        with self.assertRaisesRegex(Failure, "no viewer's socket of a server answers there"):
             Viewer(self.path)
 
 

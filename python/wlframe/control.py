@@ -36,7 +36,7 @@ class Control:
             self.listener.bind(self.path)
         except OSError as fault:
             self.listener.close()
-            raise Failure(f"{self.path}: no socket can be made there: {fault.strerror or fault}") from None
+            raise Failure(f"can't make a socket at {self.path}: {fault.strerror or fault}") from None
         self.listener.listen(16)
         self.listen()
         return self

@@ -45,7 +45,7 @@ from wlframe.windows import Seen, Window
 START = 60.0  # seconds that server and bridge have to come up
 ANSWER = 60.0  # seconds that the server has to answer
 TICK = 0.1  # seconds between two looks at what has no descriptor to wait for
-PARTING = 0.5  # seconds that the end of a process may come behind that of its sockets
+PARTING = 5.0  # seconds that the end of a process may come behind that of its sockets
 BESIDE = "/usr/games:/usr/local/games:/usr/sbin:/usr/local/sbin"  # where programs are that aren't in everybody's PATH
 POPUP = ", or is drawn into its window, as GTK 3 draws popovers"  # why a menu may not be found
 READY = "bridge: clients find it by "
@@ -78,9 +78,9 @@ class Display(Pointer, Typist, Expecting):
         view: bool | View = False,
     ):
         if len(size) != 2 or not all(1 <= side <= 4096 for side in size):
-            raise ValueError(f"size {size}: a display has two sides from 1 to 4096")
+            raise ValueError(f"size {size}: give two sides from 1 to 4096")
         if not 1 <= rate <= 1000:
-            raise ValueError(f"rate {rate}: it is from 1 to 1000 frames a second")
+            raise ValueError(f"rate {rate}: give 1 to 1000 frames a second")
         self.size, self.rate, self.record, self.trace = tuple(size), rate, record, trace
         self.asked_program, self.fullscreen, self.env, self.pointer_file = program, fullscreen, dict(env or {}), pointer
         self.view = View() if view is True else view or None
@@ -119,7 +119,7 @@ class Display(Pointer, Typist, Expecting):
     def start(self) -> None:
         """Starts server and bridge. Whoever calls it calls close."""
         program = programs.find(self.asked_program, self.tell)
-        programs.need(program, "--viewer", "it is seen what a client shows")
+        programs.need(program, "--viewer", "see what clients show")
         self.household = Household()
         self.told, self.said, self.server_said = Tail("report"), Tail("bridge"), Tail("server")
         self.report = Report(self.told, self.report_to)
@@ -128,7 +128,7 @@ class Display(Pointer, Typist, Expecting):
             (self.folder / "pools").mkdir()
             surroundings.write_settings(self.folder / "config")
             self.start_server(program)
-            self.start_bridge()
+            self.bridge = self.begin(self.bridge_words(), None, self.said)
             self.wait_up(self.connect, "the server")
             self.wait_up(lambda: self.is_ready, "the bridge")
             self.sync()
@@ -179,17 +179,17 @@ class Display(Pointer, Typist, Expecting):
         if self.pointer_file:
             words += ["--pointer", os.path.abspath(self.pointer_file)]
         if self.record:
-            programs.need(program, "--record", "what was served is recorded")
+            programs.need(program, "--record", "record what is served")
             words += ["--record", folder / "recording" if self.record is True else os.path.abspath(self.record)]
         self.server = self.begin(words, self.told, self.server_said)
 
-    def start_bridge(self) -> None:
+    def bridge_words(self) -> list:
+        """The command of the bridge."""
         folder = self.folder
         words = [*command("bridge"), "--listen", folder / "wayland-0", "--server", folder / "server", "--dir", folder / "pools"]
         words += ["--windows", folder / "titles", "--keys", folder / KEYS, "--wait", str(START), *(["--fullscreen"] if self.fullscreen else [])]
         words += ["--viewer", folder / "viewer", "--view", folder / "view"] if self.is_shared else []
-        words += ["--trace", os.path.abspath(self.trace)] if self.trace else []
-        self.bridge = self.begin(words, None, self.said)
+        return words + (["--trace", os.path.abspath(self.trace)] if self.trace else [])
 
     def begin(self, words: list, told: Tail | None, said: Tail) -> Process:
         """Starts the server or the bridge. The server speaks for itself where this process echoes."""
@@ -229,14 +229,14 @@ class Display(Pointer, Typist, Expecting):
     def need_open(self) -> None:
         """Raises where the display isn't open."""
         if self.household is None:
-            raise Failure("the display is closed, or wasn't started: with wlframe.Display(..) as display:")
+            raise Failure("the display is closed, or wasn't started: use it within `with wlframe.Display(..) as display:`")
 
     # Clients.
 
     def run(self, *words: str | os.PathLike, env: typing.Mapping[str, str] | None = None, folder: str | os.PathLike | None = None) -> Client:
         """Starts a client by the words of its command, and doesn't wait for a window of it. NotStarted where it isn't there or may not be run."""
         if not words:
-            raise ValueError("which client? run takes the words of its command")
+            raise ValueError("which client? Give run the words of its command")
         self.need_open()
         whole = surroundings.environment(self.folder, {**self.env, **(env or {})})
         named = [os.fspath(it) for it in words]
@@ -399,7 +399,7 @@ class Display(Pointer, Typist, Expecting):
     def need_window(self) -> None:
         self.ask(windows=True)
         if not self.viewer.windows.shown:
-            raise NoWindow("a click is for a window, and none is shown yet: wait for it by display.window(..)", [])
+            raise NoWindow("a click needs a window, and none is shown yet: wait for one by display.window(..)", [])
 
     def wait_for(self, predicate: typing.Callable[[Picture], typing.Any], timeout: float = 5.0) -> typing.Any:
         """Waits until the predicate of the picture is true, which is asked anew where the picture changes. Answers what it answered."""

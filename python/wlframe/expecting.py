@@ -42,7 +42,7 @@ class Expecting:
         absolute path is one of the folder `expected`. With --wlframe-update, or WLFRAME_UPDATE=1 in the environment, the picture is written in place of the expected one, once
         it stays the same for a while, if it differs."""
         if not 0 <= tolerance <= 255:
-            raise ValueError(f"tolerance {tolerance}: it is from 0 to 255")
+            raise ValueError(f"tolerance {tolerance}: give 0 to 255")
         path = self.expected / name
         shown = window.picture if window is not None else self.picture
 

@@ -190,7 +190,7 @@ def chord(words: str) -> tuple[list[str], str]:
     *held, last = words.split("+") if front is None else [*filter(None, front.split("+")), "+"]
     unknown = [it for it in held if it.lower() not in MODIFIERS]
     if unknown or not last:
-        raise NoKey(f"{words!r} is no chord: it is called as in ctrl+a, with {', '.join(MODIFIERS)}")
+        raise NoKey(f"{words!r} is no chord: write one as ctrl+a, with {', '.join(MODIFIERS)}")
     last = last if len(last) == 1 else MODIFIERS.get(last.lower()) or NAMES.get(last.lower(), last)
     return [MODIFIERS[it.lower()] for it in held], last
 

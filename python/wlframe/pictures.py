@@ -91,7 +91,7 @@ class Splitter:
         if self.head is None and self.rest:
             found = HEAD.match(self.rest[:LONGEST_HEAD])
             if found and int(found[3]) != 255:
-                raise Unreadable(f"a PPM image has 8 bits for each colour here, and this has values up to {int(found[3])}")
+                raise Unreadable(f"only PPM images with 8 bits a colour can be read, and this one has values up to {int(found[3])}")
             if found:
                 self.head = found.end(), int(found[1]), int(found[2])
             elif len(self.rest) >= LONGEST_HEAD or not b"P6".startswith(self.rest[:2]):

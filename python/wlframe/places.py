@@ -17,6 +17,6 @@ def command(name: str) -> list[str]:
 def box(text: str) -> tuple[int, int, int, int]:
     """A box of pixels of a command line, as 10,20,100,30."""
     if not re.fullmatch(r"\d{1,5},\d{1,5},\d{1,5},\d{1,5}", text, re.ASCII):
-        raise argparse.ArgumentTypeError(f"{text}: a box is X,Y,W,H, as 10,20,100,30")
+        raise argparse.ArgumentTypeError(f"{text}: write a box as X,Y,W,H, like 10,20,100,30")
     x, y, width, height = map(int, text.split(","))
     return x, y, width, height

@@ -11,7 +11,7 @@ def code_of(button: str | int) -> int:
     if isinstance(button, int):
         return button
     if button not in BUTTONS:
-        raise ValueError(f"{button}: a button is a number, or one of {', '.join(BUTTONS)}")
+        raise ValueError(f"{button}: give a button by its number, or as one of {', '.join(BUTTONS)}")
     return BUTTONS[button]
 
 
@@ -69,7 +69,7 @@ class Pointer:
     def drag(self, begin: tuple[int, int], end: tuple[int, int], steps: int = 8, button: str | int = "left") -> None:
         """Presses a button at one point, moves on in so many steps, each with a picture of its own, and releases it at the other."""
         if steps < 1:
-            raise ValueError(f"{steps} steps: a drag has at least one")
+            raise ValueError(f"{steps} steps: give a drag at least one")
         code, first = code_of(button), self.inside(*begin)
         self.inside(*end)
         self.need_window()

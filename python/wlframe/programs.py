@@ -39,4 +39,4 @@ def options(program: str) -> str:
 def need(program: str, option: str, why: str) -> None:
     """Failure where the program hasn't an option that is needed."""
     if option not in options(program):
-        raise Failure(f"{program} has no {option}, by which {why}: build the program anew, or name a later one")
+        raise Failure(f"{program} is too old to {why}: it has no {option}. Build it anew, or name a later one")

@@ -65,7 +65,7 @@ class Typist:
     def need_focus(self, keyboard: Keyboard) -> None:
         """Failure where there is no keyboard, and NoWindow where no window has its focus."""
         if keyboard.keymap and keyboard.focus() is None:
-            raise NoWindow("keys are for a window, and none is shown yet: wait for it by display.window(..)", [])
+            raise NoWindow("keys need a window, and none is shown yet: wait for one by display.window(..)", [])
 
     def type(self, text: str) -> None:
         """Types a text, character by character; a line's end is the enter key. What the layout lacks is typed by keys that the keymap gets for it."""
@@ -96,10 +96,10 @@ class Typist:
     def ask_size(self, key: tuple[int, int], width: int, height: int) -> None:
         """Asks the toplevel that a key of Seen names to have this size, in points."""
         if not (0 <= width <= LARGEST and 0 <= height <= LARGEST):
-            raise ValueError(f"{width}x{height}: a window has sides up to {LARGEST}; 0 by 0 leaves its size to the client")
+            raise ValueError(f"{width}x{height}: give sides up to {LARGEST}, or 0 by 0 to leave the size to the client")
         told = next((it for it in self.titles() if (it["connection"], it["number"]) == key), None)
         if told is None or told["kind"] != "toplevel":
-            raise Failure("a popup has the size that its client gives it: only a toplevel can be asked for one" if told else "the window is gone")
+            raise Failure("only a toplevel can be asked for a size: the client alone sizes its popups" if told else "the window is gone")
         with self.at_keys() as keyboard:
             self.begin_input()
             keyboard.resize(key[0], told["surface"], width, height)

@@ -45,14 +45,14 @@ class View:
         """The password, if there is one. Failure where the file can't be read or has none, or where everybody could look without one."""
         if self.password is None:
             if not is_own(self.host):
-                raise Failure(f"{self.host} isn't of this machine alone: a view there needs a password, by a file")
+                raise Failure(f"other machines can reach {self.host}: a view there needs a password, from a file")
             return None
         try:
             found = pathlib.Path(self.password).read_text(encoding="utf-8").partition("\n")[0].strip()
         except (OSError, UnicodeDecodeError) as fault:
             raise Failure(f"{self.password}: the password can't be read: {getattr(fault, 'strerror', fault)}") from None
         if not found:
-            raise Failure(f"{self.password}: its first line is no password")
+            raise Failure(f"{self.password}: its first line has to be a password")
         return found
 
 
@@ -102,9 +102,9 @@ class Viewed:
         self.page: str | None = None
         password = view.read_password()
         need("wayvnc")
-        port = free_port(view.host, view.port, PORT)
+        configuration = self.configure(password)
+        port = self.begin_at_port("wayvnc", view.port, PORT, lambda it: ["--config", configuration, *self.keyboard(), view.host, str(it)])
         self.address = f"{view.host}:{port}"
-        self.begin("wayvnc", ["--config", self.configure(password), *self.keyboard(), view.host, str(port)], port)
         as_whom = f", as {USER} with the password" if password else ""
         self.sentences.append(f"a VNC viewer finds the display at {self.address}{as_whom}")
         if why := why_no_page():
@@ -139,19 +139,37 @@ class Viewed:
 
     def open_page(self) -> None:
         """Starts what a browser needs."""
-        inner, port = self.household.folder / "vnc", free_port(self.view.host, self.view.page_port, PAGE_PORT)
+        inner = self.household.folder / "vnc"
         plain = self.household.folder / "wayvnc-page.conf"
         plain.write_text("enable_auth=false\n", encoding="ascii")
         self.begin("wayvnc", ["--config", plain, *self.keyboard(), "--unix-socket", inner], inner)
-        words = ["--web", NOVNC, "--unix-target", inner]
-        if self.view.password is None:  # pages of other sites, which the user's browser has open, may not connect
-            words += ["--auth-plugin", "ExpectOrigin", "--auth-source", " ".join(f"http://{it}:{port}" for it in ("127.0.0.1", "localhost", "[::1]"))]
-        else:
-            words += ["--web-auth", "--auth-plugin", "wlframe.web_password.Password", "--auth-source", os.path.abspath(self.view.password)]
+        if self.view.password is not None:
             self.environment["PYTHONPATH"] = os.pathsep.join(filter(None, [str(PACKAGE.parent), self.environment.get("PYTHONPATH")]))
         host = f"[{self.view.host}]" if ":" in self.view.host else self.view.host
-        self.begin("websockify", [*words, f"{host}:{port}"], port)
+
+        def words(port: int) -> list:
+            if self.view.password is None:  # pages of other sites, which the user's browser has open, may not connect
+                asks = ["--auth-plugin", "ExpectOrigin", "--auth-source", " ".join(f"http://{it}:{port}" for it in ("127.0.0.1", "localhost", "[::1]"))]
+            else:
+                asks = ["--web-auth", "--auth-plugin", "wlframe.web_password.Password", "--auth-source", os.path.abspath(self.view.password)]
+            return ["--web", NOVNC, "--unix-target", inner, *asks, f"{host}:{port}"]
+
+        port = self.begin_at_port("websockify", self.view.page_port, PAGE_PORT, words)
         self.page = f"http://{host}:{port}/{PAGE}?scale=true"
+
+    def begin_at_port(self, name: str, asked: int | None, first: int, words: typing.Callable[[int], list]) -> int:
+        """Starts a program at the port that was asked for, or at the first one that is free, by the words for a port, and answers which it is. Where somebody else takes a
+        free one before the program does, the next is tried."""
+        while True:
+            port = free_port(self.view.host, asked, first)
+            try:
+                self.begin(name, words(port), port)
+                return port
+            except Failure:
+                if asked is not None or not listens(port):
+                    raise
+                self.processes.pop().end()
+                first = port + 1
 
     def begin(self, name: str, words: list, place: int | pathlib.Path) -> None:
         """Starts a program, and waits until it listens there."""
@@ -161,7 +179,7 @@ class Viewed:
         self.processes.append(process)
         self.logs[process.pid] = name, log
         until = time.monotonic() + START
-        while not listens(place):
+        while not listens(place, process.pid):
             if why := self.ended():
                 raise Failure(why)
             if time.monotonic() > until:
@@ -178,13 +196,23 @@ class Viewed:
         return f"{name} {in_words(process.returncode)}: {said[-1] if said else 'it said nothing'}"
 
 
-def listens(place: int | pathlib.Path) -> bool:
-    """Whether somebody listens at a port or a socket. It isn't tried: who listens would take it for a viewer."""
+def listens(place: int | pathlib.Path, process: int | None = None) -> bool:
+    """Whether somebody listens at a port or a socket; at a port this process, where one is named. It isn't tried: who listens would take it for a viewer."""
     if isinstance(place, pathlib.Path):
         return place.exists()
+    found = set()  # the numbers of the sockets that listen there
     for table in ("/proc/net/tcp", "/proc/net/tcp6"):
         with contextlib.suppress(OSError):
             rows = [it.split() for it in pathlib.Path(table).read_text(encoding="ascii").splitlines()[1:]]
-            if any(it[3] == LISTENING and int(it[1].rpartition(":")[2], 16) == place for it in rows):
-                return True
-    return False
+            found |= {it[9] for it in rows if it[3] == LISTENING and int(it[1].rpartition(":")[2], 16) == place}
+    return bool(found) if process is None else any(f"socket:[{it}]" in opened(process) for it in found)
+
+
+def opened(process: int) -> set[str]:
+    """What a process has open."""
+    found = set()
+    with contextlib.suppress(OSError):
+        for each in pathlib.Path(f"/proc/{process}/fd").iterdir():
+            with contextlib.suppress(OSError):
+                found.add(os.readlink(each))
+    return found

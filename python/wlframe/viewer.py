@@ -108,13 +108,13 @@ class Reader:
                 return Synced(self.number(number), self.number(when))
             case [b"bad", b"line"]:
                 raise Garbled("the server couldn't read a line that it was sent")
-        raise Garbled(f"the server told its viewer {line[:LONGEST_LINE]!r}, which is no line of it")
+        raise Garbled(f"the server told its viewer {line[:LONGEST_LINE]!r}, which is no line of that protocol")
 
     def line(self) -> bytes | None:
         end = self.stream.find(b"\n", 0, LONGEST_LINE)
         if end < 0:
             if len(self.stream) >= LONGEST_LINE:
-                raise Garbled(f"the server told its viewer {bytes(self.stream[:LONGEST_LINE])!r}, which is no line of it")
+                raise Garbled(f"the server told its viewer {bytes(self.stream[:LONGEST_LINE])!r}, which is no line of that protocol")
             return None
         line = bytes(self.stream[:end])
         del self.stream[: end + 1]
@@ -264,7 +264,7 @@ class Viewer:
             self.socket.connect(str(path))
         except OSError as fault:
             self.socket.close()
-            raise Failure(f"{path}: no server shows itself there: {fault.strerror}") from None
+            raise Failure(f"{path}: no viewer's socket of a server answers there: {fault.strerror}") from None
 
     def fileno(self) -> int:
         return self.socket.fileno()
@@ -314,7 +314,7 @@ class Viewer:
                 data = data[self.socket.send(data, socket.MSG_DONTWAIT | socket.MSG_NOSIGNAL) :]
             except BlockingIOError:
                 if time.monotonic() > until:
-                    raise TimeOver(f"the server takes no lines for {PATIENCE:.0f} seconds") from None
+                    raise TimeOver(f"the server read no lines for {PATIENCE:.0f} seconds") from None
                 poll = select.poll()
                 poll.register(self.socket, select.POLLIN | select.POLLOUT)
                 if any(events & select.POLLIN for _, events in poll.poll(1000)):

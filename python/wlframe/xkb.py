@@ -115,7 +115,7 @@ class Keymap:
         """The keymap of a layout as xkb calls it: 'us', 'us(intl)', or several of them parted by commas. Unknown where there is none."""
         parts = [re.fullmatch(r"(\w[\w-]*)(?:\(([\w-]+)\))?", it.strip(), re.ASCII) for it in layout.split(",")]
         if not all(parts):
-            raise Unknown(f"{layout} is no layout: one is called as in us, de(neo) or us,ru")
+            raise Unknown(f"{layout} is no layout: write one as us, de(neo) or us,ru")
         names = Names(b"evdev", b"pc105", ",".join(it[1] for it in parts).encode(), ",".join(it[2] or "" for it in parts).encode(), None)
         made = library().xkb_keymap_new_from_names(context(), ctypes.byref(names), 0)
         return cls(made, f"there is no layout {layout} (or no folder of layouts: Debian has them in the package xkb-data)")

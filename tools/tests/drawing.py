@@ -59,14 +59,9 @@ class Side:
         self.compositor, self.shm, self.base, self.subcompositor = (self.client.bind(registry, *it) for it in names)
 
     def picture(self):
-        """The last frame's bytes."""
-        images = self.rig.room / "frames.ppm"
-        width, height = map(int, SIZE.split("x"))
-        one = len(f"P6\n{width} {height}\n255\n") + 3 * width * height
-        with open(images, "rb") as stream:
-            count = os.fstat(stream.fileno()).st_size // one
-            stream.seek(max(count - 1, 0) * one)
-            return stream.read(one)
+        """What a viewer sees, once all is shown that was asked."""
+        self.rig.settle()
+        return bytes(self.rig.viewer.frame.pixels)
 
     def error(self):
         return [text for said, text in self.client.events if said.name == "wl_display.error"]
@@ -92,12 +87,12 @@ class Pool:
 
 
 class Buffer:
-    """A buffer on both sides: its sides and its pixels, as rows."""
+    """A buffer on both sides: its sides, its wl_shm.format, and its pixels, as rows."""
 
-    def __init__(self, pair, pool, width, height, gap):
-        self.pool, self.width, self.height, self.stride = pool, width, height, 4 * (width + gap)
+    def __init__(self, pair, pool, width, height, gap, form):
+        self.pool, self.width, self.height, self.stride, self.form = pool, width, height, 4 * (width + gap), form
         self.at = pool.room(self.stride * height)
-        self.id = pair.put(pool.id, "create_buffer", self.at, width, height, self.stride, pair.chance.randrange(2))
+        self.id = pair.put(pool.id, "create_buffer", self.at, width, height, self.stride, form)
         self.is_free = True
 
     def write(self, rows):
@@ -111,7 +106,7 @@ class Surface:
 
     def __init__(self, pair, parent=None):
         self.pair, self.parent, self.buffers, self.rows = pair, parent, [], None
-        self.scale, self.transform = 1, 0
+        self.scale, self.transform, self.form = 1, 0, pair.chance.randrange(2)
         self.id = pair.put(pair.sides[0].compositor, "create_surface")
         if parent is None:
             self.shell = pair.put(pair.sides[0].base, "get_xdg_surface", self.id)
@@ -142,7 +137,7 @@ class Surface:
         for each in [it for it in self.buffers if it.is_free][: max(0, len(self.buffers) - MANY)]:
             self.buffers.remove(each)
             self.pair.put(each.id, "destroy")
-        made = Buffer(self.pair, self.pair.pool(), *sides, chance.choice([0, 0, 0, 3]))
+        made = Buffer(self.pair, self.pair.pool(), *sides, chance.choice([0, 0, 0, 3]), self.form)
         self.buffers.append(made)
         return made
 
@@ -188,7 +183,8 @@ class Surface:
         had = (len(self.rows[0]), len(self.rows)) if self.rows else None
         sides = had if had and chance.random() < 0.95 else chance.choice(SIDES)
         buffer, is_new = self.buffer(sides), self.change_way() or sides != had
-        if is_new:
+        if is_new or buffer.form != self.form:  # the same numbers are other colours in another format
+            is_new, self.form = True, buffer.form
             self.rows = [[self.colour() for _ in range(sides[0])] for _ in range(sides[1])]
         self.rows = [list(row) for row in self.rows]
         place = (chance.randrange(-4, 5), chance.randrange(-4, 5)) if had and chance.random() < 0.1 else (0, 0)
@@ -285,8 +281,6 @@ class Pair:
                 side.client.flush()
             for side in self.sides:
                 side.client.round_trip()
-            for side in self.sides:
-                side.rig.settle()
             pictures = [side.picture() for side in self.sides]
             if pictures[0] != pictures[1]:
                 raise AssertionError(f"after {self.commits} commits the pictures differ")

@@ -1,11 +1,11 @@
 """A client for tests of displays: a window with a title that changes its colour at each press of the left button.
 
-    lamp.py [--size WxH] [--title TEXT] [--app-id NAME] [--geometry X,Y,W,H] [--blink X,Y,W,H] [--noise] [--after SECONDS] [--keys]
+    lamp.py [--size WxH] [--title TEXT] [--app-id NAME] [--geometry X,Y,W,H] [--blink X,Y,W,H] [--noise] [--after SECONDS] [--leave SECONDS] [--keys]
 
 It is dark blue at first, and then red, green and blue in turn. A press of the right button ends it with status 7, the middle one makes a bad request, and the side one
 crashes it. It writes each press with its point. With --keys it writes each key that goes down too, with the modifiers that are depressed. It takes each
-size that it is asked to have. With --blink it changes the colour of that box all the time, and with --noise each pixel has a colour of its own, which stays.
---after lets it wait before it shows its window.
+size that it is asked to have. With --blink it changes the colour of that box all the time, each time to one that the box never had, and with --noise each pixel has a colour of its own, which stays.
+--after lets it wait before it shows its window, and --leave lets it go so long after that.
 """
 import argparse
 import os
@@ -22,7 +22,16 @@ from client import Client, Window  # pylint: disable=wrong-import-position
 COLOURS = (0x000080, 0xFF0000, 0x00FF00, 0x0000FF)
 LEFT, RIGHT, MIDDLE, SIDE = 0x110, 0x111, 0x112, 0x113
 STATUS = 7
+LONG = 3600.0  # seconds that it stays, where nothing else is asked
 BLINK = 0.05  # seconds
+BLINKS, STRIDE = 1 << 21, 40_503  # how many colours a box that blinks has, and an odd number, by which neighbours differ much
+
+
+def blinking(number):
+    """The colour of a box that blinks, as 0xaarrggbb, by the number of the painting. No two of BLINKS paintings have the same: who looks at each second one sees it change too.
+    Red, green and blue are 128 at least, as in no colour of a lamp."""
+    mixed = number * STRIDE % BLINKS
+    return 0xFF808080 | mixed >> 14 << 16 | (mixed >> 7 & 0x7F) << 8 | mixed & 0x7F
 
 
 class Lamp(Window):
@@ -39,7 +48,7 @@ class Lamp(Window):
         self.pointer = client.send(seat, "get_pointer")
         self.keyboard, self.modifiers = client.send(seat, "get_keyboard") if asked.keys else None, 0
         self.wanted = 0, 0  # the size that it is asked to have
-        self.blink, self.noise, self.count, self.presses, self.place = asked.blink, asked.noise, 0, 0, (0, 0)
+        self.blink, self.noise, self.stays, self.count, self.presses, self.place = asked.blink, asked.noise, asked.leave, 0, 0, (0, 0)
         client.take()  # the first configure is acknowledged
 
     def paint(self):
@@ -52,7 +61,7 @@ class Lamp(Window):
         if self.blink:
             x, y, width, height = self.blink
             for row in range(y, y + height):
-                self.memory.fill(at * self.size + 4 * (row * self.width + x), width, 1, 0xFFFFFFFF if self.count % 2 else 0xFF808080)
+                self.memory.fill(at * self.size + 4 * (row * self.width + x), width, 1, blinking(self.count))
         self.show(at)
 
     def take(self, said):
@@ -97,8 +106,9 @@ class Lamp(Window):
 
     def run(self):
         self.paint()
-        while True:
-            if not self.client.events and select.select([self.client.socket], [], [], BLINK if self.blink else None)[0]:
+        until = time.monotonic() + self.stays
+        while (left := until - time.monotonic()) > 0:
+            if not self.client.events and select.select([self.client.socket], [], [], min(left, BLINK if self.blink else LONG))[0]:
                 self.client.receive()
             events, self.client.events = self.client.events, []
             changed = [self.take(said) for said, _ in events]
@@ -123,6 +133,7 @@ def main():
     parser.add_argument("--blink", type=box)
     parser.add_argument("--noise", action="store_true")
     parser.add_argument("--after", type=float, default=0.0)
+    parser.add_argument("--leave", type=float, default=LONG)
     parser.add_argument("--keys", action="store_true")
     asked = parser.parse_args()
     time.sleep(asked.after)

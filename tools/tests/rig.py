@@ -132,6 +132,8 @@ class Rig:
     def start_bridge(self, *options, **named):
         self.begin_bridge(*options, **named)
         wait_for(lambda: "clients find it" in self.words() or self.bridge.poll() is not None, "the bridge doesn't get ready")
+        if "clients find it" not in self.words():
+            raise RuntimeError(f"the bridge ended with status {self.bridge.returncode}: {self.words()}")
 
     def words(self):
         """What the bridge has said."""

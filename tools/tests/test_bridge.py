@@ -29,7 +29,7 @@ class WithRig(unittest.TestCase):
 
     @classmethod
     def setUpClass(cls):
-        cls.rig = cls.enterClassContext(Rig(*cls.options, size=cls.size, pointer=cls.pointer))
+        cls.rig = cls.enterClassContext(Rig(*cls.options, size=cls.size, pointer=cls.pointer, viewer=True))
 
     def client(self):
         return self.enterContext(Client(self.rig.wayland))
@@ -132,6 +132,7 @@ class WithWindow(WithRig):
     def leave(self):
         self.client.socket.close()
         wait_for(lambda: self.rig.ends() == 1 + self.windows, "the server doesn't end the client")
+        self.rig.settle()  # a frame has shown that it is gone
 
     def expect(self, number, damaged, colours):
         """The frame of this number, from 1, has so many damaged points, and these colours, by points of the window."""

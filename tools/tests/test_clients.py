@@ -27,8 +27,8 @@ class Clients(unittest.TestCase):
         self.addCleanup(lambda: os.environ.update(WLFRAME=before) if before else os.environ.pop("WLFRAME"))
 
     def outcome(self, words):
-        """What comes of a client that runs for five seconds at most."""
-        return self.clients.run(self.clients.Client(words, "a-package", 5), 1.0, None)
+        """What comes of a client that runs for twelve seconds at most."""
+        return self.clients.run(self.clients.Client(words, "a-package", 6), 2.0, None)
 
     def paint(self, words):
         return self.outcome(f"{sys.executable} {HERE / 'painter.py'} {words}")

@@ -76,7 +76,7 @@ class Compares(unittest.TestCase):
         self.assertEqual(self.compare("a.png", "b.png", "--mask", "0,2,2,1"), (1, said, ""))
         status, _, wrong = self.compare("a.png", "b.png", "--mask", "0,2,2")
         self.assertEqual(status, 2)
-        self.assertIn("argument --mask: 0,2,2: a box is X,Y,W,H, as 10,20,100,30", wrong)
+        self.assertIn("argument --mask: 0,2,2: write a box as X,Y,W,H, like 10,20,100,30", wrong)
 
     def test_picture_of_the_difference(self):
         self.put("a.png", self.white)

@@ -55,18 +55,21 @@ class Controls(unittest.TestCase):
         done = subprocess.run(words, cwd=self.room, env={**self.environment, **(environment or {})}, capture_output=True, text=True, check=False, timeout=PATIENCE)
         return done.returncode, done.stdout, done.stderr
 
+    def shot(self, name, *words):
+        """The picture that `shot` writes."""
+        self.assertEqual(self.ctl("shot", name, *words), (0, "", ""))
+        return load(self.room / name)
+
     def test_points_waits_and_pictures(self):
         """All commands, one behind the other; the first waits for the window."""
         self.run_lamp("--after", "0.5")
         self.assertEqual(self.ctl("wait-window", "--title", "Lamp", "--timeout", "60"), (0, "32x24 at 0, 0\n", ""))
         self.assertEqual(self.ctl("wait-window", "--app-id", "org.example.lamp"), (0, "32x24 at 0, 0\n", ""))
         self.assertEqual(self.ctl("windows"), (0, '32x24 at 0, 0: toplevel "Lamp" org.example.lamp\n', ""))
-        self.assertEqual(self.ctl("shot", "dark.png"), (0, "", ""))
-        self.assertEqual(load(self.room / "dark.png").pixel(0, 0), DARK)
+        self.assertEqual(self.shot("dark.png").pixel(0, 0), DARK)
         self.assertEqual(self.ctl("click", "3", "4"), (0, "", ""))
+        wait_for(lambda: self.shot("red.png", "--window", "Lamp") == Picture(32, 24, bytes(RED) * 768), "the window isn't red")
         self.assertEqual(self.ctl("wait-idle", "--seconds", "0.3", "--timeout", "60"), (0, "", ""))
-        self.assertEqual(self.ctl("shot", "red.png", "--window", "Lamp"), (0, "", ""))
-        self.assertEqual(load(self.room / "red.png"), Picture(32, 24, bytes(RED) * 768))
         self.assertEqual(self.ctl("move", "5", "6", "--window", "Lamp"), (0, "", ""))
         self.assertEqual(self.ctl("drag", "1", "1", "9", "9", "--steps", "2", "--window", "Lamp"), (0, "", ""))
         self.assertEqual(self.ctl("drag", "1", "1", "9", "9"), (0, "", ""))
@@ -83,7 +86,7 @@ class Controls(unittest.TestCase):
         process = self.run_lamp("--keys")
         self.assertEqual(self.ctl("resize", "20", "10", "--window", "Lamp", "--timeout", "60"), (0, "", ""))
         wait_for(lambda: self.ctl("windows")[1].startswith("20x10 "), "the window has its old size")
-        self.assertEqual(self.ctl("paste"), (1, "", "ctl: no text is copied\n"))
+        self.assertEqual(self.ctl("paste"), (1, "", "ctl: nothing was copied, or no text\n"))
         self.assertEqual(self.ctl("copy", "née\n"), (0, "", ""))
         self.assertEqual(self.ctl("paste"), (0, "née\n", ""))
         if WHY_NOT:
@@ -108,10 +111,10 @@ class Controls(unittest.TestCase):
             (["click", "1", "1", "--window", "Other", "--timeout", "0.1"], 124, 'with the title "Other" wasn\'t shown'),
             (["click", "40", "1", "--window", "Lamp"], 1, "40, 1 isn't within \"Lamp\""),
             (["move", "64", "1"], 1, "64, 1 isn't within the display of 64x48"),
-            (["click", "1", "1", "--button", "fourth"], 1, "fourth: a button is a number, or one of left"),
+            (["click", "1", "1", "--button", "fourth"], 1, "fourth: give a button by its number, or as one of left"),
             (["shot", "missing/shot.png"], 1, "missing/shot.png"),
             (["wait-idle", "--seconds", "100", "--timeout", "0.1"], 124, "didn't stay the same for 100 seconds in 0.1"),
-            (["wait-idle", "--ignore", "1,2"], 2, "a box is X,Y,W,H"),
+            (["wait-idle", "--ignore", "1,2"], 2, "write a box as X,Y,W,H"),
             (["press", "1"], 2, "invalid choice: 'press'"),
         ]:
             done = self.ctl(*words)
@@ -119,10 +122,10 @@ class Controls(unittest.TestCase):
             self.assertIn(said, done[2])
 
     def test_no_display(self):
-        self.assertEqual(self.ctl("windows"), (1, "", f"ctl: {self.control}: no display is there: No such file or directory\n"))
+        self.assertEqual(self.ctl("windows"), (1, "", f"ctl: {self.control}: no display answers there: No such file or directory\n"))
         status, _, said = self.ctl("windows", environment={})
         self.assertEqual(status, 2)
-        self.assertIn("which display? --control PATH names its socket, or WLFRAME_VIEWER in the environment", said)
+        self.assertIn("which display? Name its socket by --control PATH, or by WLFRAME_VIEWER in the environment", said)
 
     def test_client_that_controls_itself(self):
         """A script under tools/run finds the display by its environment."""
@@ -148,7 +151,7 @@ class Controls(unittest.TestCase):
         self.control.write_text("kept")
         words = [sys.executable, TOOLS / "run", "--size", "64x48", "--control", self.control, "--", *LAMP]
         done = subprocess.run(words, env=self.environment, capture_output=True, text=True, check=False, timeout=PATIENCE)
-        self.assertEqual((done.returncode, done.stderr), (125, f"run: {self.control}: no socket can be made there: Address already in use\n"))
+        self.assertEqual((done.returncode, done.stderr), (125, f"run: can't make a socket at {self.control}: Address already in use\n"))
         self.assertEqual(self.control.read_text(), "kept")
         self.control.unlink()
 

@@ -118,8 +118,7 @@ class Points(Displays):
         left, top = window.box[:2]
         display.click(left + 3, top + 4, count=3)
         display.wait_until(lambda: client.output.count("pressed") == 3, LONG, "three presses didn't come")
-        display.wait_until_idle(0.2, LONG)
-        self.assertEqual(display.picture().pixel(left, top), BLUE)
+        display.wait_for(lambda picture: picture.pixel(left, top) == BLUE, LONG)
         display.click(left, top, button="right")
         self.assertEqual(client.wait(LONG), 7)
         self.assertEqual(client.output.splitlines()[-2:], ["pressed 0x111 at 0, 0", "ends as it was told"])
@@ -145,7 +144,7 @@ class Points(Displays):
 
     def test_what_can_not_be_pointed_at(self):
         display = self.display()
-        with self.assertRaisesRegex(wlframe.NoWindow, "a click is for a window, and none is shown yet"):
+        with self.assertRaisesRegex(wlframe.NoWindow, "a click needs a window, and none is shown yet"):
             display.click(1, 1)
         with self.assertRaisesRegex(wlframe.NoWindow, "none is shown yet"):
             display.press_button()
@@ -153,9 +152,9 @@ class Points(Displays):
         for place in ((64, 0), (0, 48), (-1, 0)):
             with self.assertRaisesRegex(wlframe.Failure, "isn't within the display of 64x48"):
                 display.move(*place)
-        with self.assertRaisesRegex(ValueError, "a button is a number, or one of left, right, middle"):
+        with self.assertRaisesRegex(ValueError, "give a button by its number, or as one of left, right, middle"):
             display.release_button("fourth")
-        with self.assertRaisesRegex(ValueError, "a drag has at least one"):
+        with self.assertRaisesRegex(ValueError, "give a drag at least one"):
             display.drag((0, 0), (1, 1), steps=0)
 
 
@@ -187,7 +186,7 @@ class Waits(Displays):
             display.wait_until_idle(30, timeout=1)
         picture = display.wait_until_idle(0.3, LONG, ignore=[(x + 2, y + 3, 4, 5)])
         self.assertEqual(picture.pixel(x, y), DARK)
-        self.assertIn(picture.pixel(x + 2, y + 3), (WHITE, (128, 128, 128)))
+        self.assertGreaterEqual(min(picture.pixel(x + 2, y + 3)), 128)  # as each colour that it blinks in
 
     def test_nothing_shown(self):
         display = self.display()
@@ -408,6 +407,7 @@ class Keeps(Displays):
         self.assertFalse((self.room / "film.png").exists())
         display.keep_film(seconds=600)
         _, window = self.lamp(display)
+        display.wait_until_idle(0.1, LONG)  # pictures that stand for less than 33 ms aren't in it
         window.click(1, 1)
         display.wait_for_change(LONG)
         self.assertTrue(display.save_film(self.room / "film.png"))
@@ -428,7 +428,7 @@ class Keeps(Displays):
         self.assertFalse(self.display().save_recording(self.room / "none.rec"))
         if not has_option("--record"):
             for record in (True, self.room / "made.rec"):
-                with self.assertRaisesRegex(wlframe.Failure, "has no --record, by which what was served is recorded: build the program anew"):
+                with self.assertRaisesRegex(wlframe.Failure, "is too old to record what is served: it has no --record. Build it anew"):
                     self.display(record=record)
             return
         display, named = self.display(record=True), self.display(record=self.room / "named.rec")
@@ -451,7 +451,7 @@ class Begins(Displays):
             with self.assertRaisesRegex(ValueError, "two sides from 1 to 4096"):
                 wlframe.Display(size=size)
         for rate in (0, 1001):
-            with self.assertRaisesRegex(ValueError, "from 1 to 1000 frames"):
+            with self.assertRaisesRegex(ValueError, "give 1 to 1000 frames"):
                 wlframe.Display(rate=rate)
 
     def test_not_started_or_closed(self):
@@ -506,7 +506,7 @@ class Begins(Displays):
         path = self.room / "old"
         path.write_text("#!/bin/sh\necho --turns N\n")
         path.chmod(0o755)
-        with self.assertRaisesRegex(wlframe.Failure, "old has no --viewer, by which it is seen what a client shows: build the program anew"):
+        with self.assertRaisesRegex(wlframe.Failure, "old is too old to see what clients show: it has no --viewer. Build it anew"):
             self.display(program=path)
 
     def test_fullscreen_and_pointer_file(self):

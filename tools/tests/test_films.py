@@ -1,4 +1,5 @@
 """The films of tools/run: how long they last, what is in them, and what is said where ffmpeg fails. A stand-in for ffmpeg keeps what it is sent."""
+import itertools
 import os
 import pathlib
 import shutil
@@ -29,9 +30,9 @@ class Films(test_run.Tool):
     def test_film(self):
         """It begins black, as the client starts, and lasts as long as the run."""
         begun = time.monotonic()
-        done = self.paint("--film", "film.mp4", "--seconds", "4", painter=["--then", "wait", "ff0000"], environment=self.stand_in_coder())
+        done = self.paint("--film", "film.mp4", "--until-idle", "4000", painter=["--then", "wait", "ff0000"], environment=self.stand_in_coder())
         took = time.monotonic() - begun
-        self.assertEqual((done.returncode, done.stderr), (124, ""))
+        self.assertEqual((done.returncode, done.stderr), (0, ""))
         self.assertIn("-f rawvideo -pix_fmt rgb24 -s 64x48 -framerate 30 -i -", (self.room / "words").read_text())
         shown, red = self.sent(), expected(RED).pixels
         black = shown.index(red)
@@ -41,13 +42,15 @@ class Films(test_run.Tool):
 
     def test_film_whose_coder_is_slow(self):
         """Neither the client nor the film's clock waits for it: all that was shown is there at its time."""
-        lamp = [sys.executable, HERE / "lamp.py", "--blink", "2,3,4,5"]
-        way = self.stand_in_coder("sleep 6")
-        done = self.run_tool("--film", "film.mp4", "--seconds", "4", client=lamp, environment=way)
-        self.assertEqual((done.returncode, done.stderr), (124, ""))
+        lamp = [sys.executable, HERE / "lamp.py", "--blink", "2,3,4,5", "--leave", "4"]
+        done = self.run_tool("--film", "film.mp4", client=lamp, environment=self.stand_in_coder("sleep 6"))
+        self.assertEqual((done.returncode, done.stderr), (0, ""))
         shown = self.sent()
         self.assertGreaterEqual(len(shown), 4 * 30 - 1)
-        self.assertGreater(len(set(shown[-60:])), 1)  # it blinks until the end
+        lit = [it for it in shown if any(it)]
+        blinks = [it for it, _ in itertools.groupby(lit)]
+        self.assertEqual(len(set(blinks)), len(blinks))  # each comes once, as it was shown
+        self.assertGreater(len(set(lit[-60:])), 1)  # it blinks until the end
 
     def test_film_whose_coder_fails(self):
         way = self.stand_in_coder("echo no room >&2; exit 1")
@@ -57,8 +60,8 @@ class Films(test_run.Tool):
 
     @unittest.skipUnless(shutil.which("ffprobe"), "there is no ffmpeg (Debian: ffmpeg)")
     def test_film_of_ffmpeg(self):
-        done = self.paint("--film", "film.mp4", "--seconds", "3", painter=["--then", "wait", "ff0000"])
-        self.assertEqual((done.returncode, done.stderr), (124, ""))
+        done = self.paint("--film", "film.mp4", "--until-idle", "3000", painter=["--then", "wait", "ff0000"])
+        self.assertEqual((done.returncode, done.stderr), (0, ""))
         words = ["ffprobe", "-v", "error", "-show_entries", "format=duration", "-of", "csv=p=0", self.room / "film.mp4"]
         told = subprocess.run(words, capture_output=True, text=True, check=True).stdout
         self.assertGreaterEqual(float(told), 2.9)

@@ -355,16 +355,16 @@ class Asked(WithKeys):
 
     def test_bad_lines(self):
         for line, why in (
-            ("hello", "no line begins with hello"),
-            ("key 30", "a key's state is a number from 0 to 1, not "),
-            ("key 9999 1", "a key's code is a number from 0 to 767, not 9999"),
-            ("key 30 2", "a key's state is a number from 0 to 1, not 2"),
+            ("hello", "hello is no order"),
+            ("key 30", "a key's state has to be a number from 0 to 1, not "),
+            ("key 9999 1", "a key's code has to be a number from 0 to 767, not 9999"),
+            ("key 30 2", "a key's state has to be a number from 0 to 1, not 2"),
             ("layout nowhere", "there is no layout nowhere"),
             ("size 1 2 3", "size C S W H"),
-            ("size 900 2 30 30", "client 900 has no toplevel whose surface is 2"),
-            ("copy hello", "what is copied stands as JSON has a string"),
-            ('copy "\\ud800"', "what is copied stands as JSON has a string"),
-            ("sync", "what sync is to answer is a number"),
+            ("size 900 2 30 30", "client 900 has no toplevel with the surface 2"),
+            ("copy hello", "the text to copy has to be a JSON string"),
+            ('copy "\\ud800"', "the text to copy has to be a JSON string"),
+            ("sync", "the number of a sync has to be a number"),
         ):
             with self.subTest(line=line), keys.Keyboard(self.rig.room / "keys") as other, self.assertRaises(keys.Failed) as caught:
                 other.send("", "# nothing", line)

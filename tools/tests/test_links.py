@@ -302,7 +302,7 @@ class Shares(unittest.TestCase):
             self.pools(client, shm, [64] * 4)
             client.round_trip()
             self.pools(client, shm, [64])
-            self.assertIn('2 no_memory, "it has 8 pools and side files, and may have no more (--files)"', client.error())
+            self.assertIn('2 no_memory, "it has 8 pools and side files, which is the most of --files"', client.error())
         wait_for(lambda: not list(rig.pools.iterdir()), "files stay")
 
     def test_space(self):

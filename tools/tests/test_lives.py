@@ -67,7 +67,7 @@ class Lives(unittest.TestCase):
         living, said = rig.bridge, rig.said
         rig.said = rig.room / "said of the second"
         rig.begin_bridge()
-        self.expect_end(rig, 1, "bridge: wayland is there already: another bridge or compositor listens there")
+        self.expect_end(rig, 1, "bridge: wayland exists already: another bridge or compositor listens there")
         rig.bridge, rig.said = living, said
         with Client(rig.wayland) as client:
             client.begin()
@@ -103,7 +103,7 @@ class Lives(unittest.TestCase):
         rig = self.rig()
         rig.end()
         rig.begin_bridge()
-        self.expect_end(rig, 1, "start both anew where another client or bridge has connected to the server before")
+        self.expect_end(rig, 1, "If another client or bridge connected to the server before, start both anew")
 
     def test_folder_that_is_missing(self):
         rig = self.rig(bridge=False)

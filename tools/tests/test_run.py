@@ -18,7 +18,8 @@ from rig import TOOLS, program, wait_for  # pylint: disable=wrong-import-positio
 
 RED, GREEN, BLUE, BLACK = bytes.fromhex("ff0000"), bytes.fromhex("00ff00"), bytes.fromhex("0000ff"), b"\0\0\0"
 OUTPUT, WINDOW = (64, 48), (32, 24)  # WINDOW is painter.py's, which stands in the output's corner
-PATIENCE = 120
+PATIENCE = 120  # seconds
+LONG = "12"  # seconds in which a client shows something, also on a machine that does much else
 KEPT = "what it said stands above, and what it showed until then is kept"
 FULL = "run: /dev/full can't be written: No space left on device; make room there, or name another place"
 
@@ -99,7 +100,7 @@ class Runs(Tool):
         self.assertEqual(read(self.room / "shot.png"), expected(BLUE))
 
     def test_time_over(self):
-        done = self.paint("--seconds", "4", "--png", "shot.png", painter=["--then", "wait", "ff0000"])
+        done = self.paint("--seconds", LONG, "--png", "shot.png", painter=["--then", "wait", "ff0000"])
         self.assertEqual((done.returncode, done.stderr), (124, ""))
         self.assertEqual(read(self.room / "shot.png"), expected(RED))
 
@@ -140,8 +141,8 @@ class Runs(Tool):
     def test_wrong_words(self):
         for size in ("0x48", "64x4097", "64", "64x48x2"):
             done = self.paint("--size", size)
-            self.expect(done, 125, f"run: --size {size}: a size is two numbers from 1 to 4096, as 640x480; --help tells more")
-        self.expect(self.run_tool(), 125, "run: which client? It stands behind --, as in: -- weston-simple-shm; --help tells more")
+            self.expect(done, 125, f"run: --size {size}: give two numbers from 1 to 4096, as 640x480; --help tells more")
+        self.expect(self.run_tool(), 125, "run: which client? Put it behind --, as in: -- weston-simple-shm; --help tells more")
         self.assertEqual(self.paint("--seconds", "never").returncode, 125)
 
     def test_no_program(self):
@@ -171,7 +172,7 @@ class Runs(Tool):
         path.write_text("#!/bin/sh\necho --turns N\n")
         path.chmod(0o755)
         done = self.paint(environment={"WLFRAME": str(path)})
-        self.expect(done, 125, f"run: {path} has no --viewer, by which it is seen what a client shows: build the program anew, or name a later one")
+        self.expect(done, 125, f"run: {path} is too old to see what clients show: it has no --viewer. Build it anew, or name a later one")
 
     def test_words_of_the_server(self):
         """It is asked for 60 turns a second, for the default size that fits most windows, and for what the user asked."""
@@ -185,8 +186,8 @@ class Runs(Tool):
     def test_idle_limit(self):
         """One that never rests is ended with a status of its own, but where what changes is ignored."""
         lamp = [sys.executable, HERE / "lamp.py", "--blink", "2,3,4,5"]
-        done = self.run_tool("--until-idle", "20000", "--idle-limit", "6", "--png", "shot.png", client=lamp)
-        self.expect(done, 123, f"run: {sys.executable} wasn't idle for 20000 milliseconds within 6 seconds")
+        done = self.run_tool("--until-idle", "20000", "--idle-limit", LONG, "--png", "shot.png", client=lamp)
+        self.expect(done, 123, f"run: {sys.executable} wasn't idle for 20000 milliseconds within {LONG} seconds")
         self.assertEqual(read(self.room / "shot.png").pixel(0, 0), (0, 0, 128))
         done = self.run_tool("--until-idle", "300", "--idle-limit", "60", "--ignore", "2,3,4,5", client=lamp)
         self.assertEqual((done.returncode, done.stderr), (0, ""))
@@ -201,16 +202,16 @@ class Runs(Tool):
 
     def test_words_that_are_for_others(self):
         for option, needs in (("--crop", "--png"), ("--idle-limit=3", "--until-idle"), ("--ignore=1,2,3,4", "--until-idle")):
-            self.expect(self.paint(option), 125, f"run: {option.partition('=')[0]} is for {needs}, which isn't given; --help tells more")
+            self.expect(self.paint(option), 125, f"run: {option.partition('=')[0]} needs {needs}; --help tells more")
         done = self.paint("--until-idle", "10", "--ignore", "1,2,3")
-        self.expect(done, 125, "run: argument --ignore: 1,2,3: a box is X,Y,W,H, as 10,20,100,30; --help tells more")
+        self.expect(done, 125, "run: argument --ignore: 1,2,3: write a box as X,Y,W,H, like 10,20,100,30; --help tells more")
 
     def test_client_without_the_dashes(self):
         words = [sys.executable, TOOLS / "run", "--size", "64x48", "weston-flower", "--fast"]
         done = subprocess.run(words, env=self.environment(), capture_output=True, text=True, check=False)
-        self.expect(done, 125, "run: weston-flower: a client stands behind --, as in: -- weston-flower --fast; --help tells more")
+        self.expect(done, 125, "run: put the client behind --, as in: -- weston-flower --fast; --help tells more")
         self.expect(self.paint("--pgn", "shot.png"), 125, "run: there is no option --pgn; --help tells more")
-        self.expect(self.paint("shot.png"), 125, "run: shot.png stands before --, and is no option; --help tells more")
+        self.expect(self.paint("shot.png"), 125, "run: shot.png is no option: put what belongs to the client behind --; --help tells more")
 
     def test_pointer_file(self):
         missing = self.room / "missing"
@@ -218,7 +219,7 @@ class Runs(Tool):
         path = self.room / "moves"
         for line in ("move 1 2 3", "motion 1 2", "button 0 272 2", "motion -1 2 3"):
             path.write_text(f"# good\n\n motion 0 -3 4\nbutton 00 272 1 \n{line}\n")
-            said = f"run: --pointer {path}: line 5 is {line!r}, and neither `motion T X Y` nor `button T CODE 0` or `1`; --help tells more"
+            said = f"run: --pointer {path}: line 5 is {line!r}. Write `motion T X Y`, `button T CODE 0` or `button T CODE 1`; --help tells more"
             self.expect(self.paint("--pointer", path), 125, said)
         path.write_text("# good\nmotion 0 3 4")
         self.assertEqual(self.paint("--pointer", path, painter=["ff0000"]).returncode, 0)

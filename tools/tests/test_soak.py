@@ -52,7 +52,7 @@ class Soak(unittest.TestCase):
 
     def expect_failure_by(self, number, why, *words):
         """It fails once its server got a signal amid a storm."""
-        process = self.begin("--kinds", QUICK, *words, seconds=60)
+        process = self.begin("--kinds", QUICK, *(words or ["--patience", "60"]), seconds=60)
         wait_for(self.pid.exists, "the soak starts no server")
         server = int(self.pid.read_text())
         wait_for(lambda: b"client 9" in (pathlib.Path(f"/proc/{server}/fd/1").read_bytes()), "no hostile client comes")
@@ -80,21 +80,21 @@ class Soak(unittest.TestCase):
         self.expect_failure_by(signal.SIGKILL, r"the server ended by SIGKILL$")
 
     def test_server_that_stops(self):
-        self.expect_failure_by(signal.SIGSTOP, r"the good client waited 1 seconds for a round trip and a frame$", "--patience", "1")
+        self.expect_failure_by(signal.SIGSTOP, r"the good client waited 5 seconds for a round trip and a frame$", "--patience", "5")
 
     def test_server_that_tells_something_else(self):
-        process = self.begin(change='set -- "${@/640x480/640x479}"')
+        process = self.begin("--patience", "60", change='set -- "${@/640x480/640x479}"')
         self.expect_failure(process, r"the good client was told [0-9a-f ]+ instead of [0-9a-f ]+$")
 
     def test_server_that_shows_something_else(self):
         """It reads the clients' memory elsewhere, where there is none."""
         elsewhere = self.room / "elsewhere"
         elsewhere.mkdir()
-        process = self.begin("--patience", "3", change=f'set -- "${{@:1:5}}" --size 640x480 --dir {elsewhere} "${{@:10}}"')
+        process = self.begin("--patience", "6", change=f'set -- "${{@:1:5}}" --size 640x480 --dir {elsewhere} "${{@:10}}"')
         self.expect_failure(process, r"the image is wrong: [\d,]+ pixels, the first at \(0, 0\), which is 000000 and not [0-9a-f]{6}$")
 
     def test_server_that_grows(self):
-        process = self.begin("--kinds", QUICK, "--memory", "0.5", seconds=60)
+        process = self.begin("--kinds", QUICK, "--memory", "0.5", "--patience", "60", seconds=60)
         self.expect_failure(process, r"the server has [\d.,]+ MB in memory, above the 0\.5 MB that it may have$")
 
     def test_usage(self):

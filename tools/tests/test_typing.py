@@ -77,7 +77,7 @@ class Types(WithWindow):
     def test_no_window(self):
         display = self.display()
         for do in (lambda: display.type("a"), lambda: display.press("a")):
-            with self.assertRaisesRegex(wlframe.NoWindow, "^keys are for a window, and none is shown yet"):
+            with self.assertRaisesRegex(wlframe.NoWindow, "^keys need a window, and none is shown yet"):
                 do()
 
     def test_chords_that_are_none(self):
@@ -166,7 +166,7 @@ class Sizes(Seen):
         display = self.display()
         client, window = self.lamp(display)
         for sides in ((-1, 5), (5, 4097)):
-            with self.subTest(sides=sides), self.assertRaisesRegex(ValueError, "a window has sides up to 4096"):
+            with self.subTest(sides=sides), self.assertRaisesRegex(ValueError, "give sides up to 4096"):
                 window.resize(*sides)
         client.kill()
         display.wait_until(lambda: not window.is_shown, LONG, "it is still shown")

@@ -35,7 +35,7 @@ class Settings(unittest.TestCase):
                 self.assertEqual(view.is_own(host), is_own)
 
     def test_passwords(self):
-        with self.assertRaisesRegex(wlframe.Failure, "0.0.0.0 isn't of this machine alone"):
+        with self.assertRaisesRegex(wlframe.Failure, "other machines can reach 0.0.0.0"):
             view.View(host="0.0.0.0").read_password()
         with self.assertRaisesRegex(wlframe.Failure, "/nowhere/password: the password can't be read: No such file"):
             view.View(password="/nowhere/password").read_password()
@@ -114,6 +114,19 @@ class Vnc(Views):
         for is_down in (1, 0):
             viewer.key(ord("ü"), is_down)
         display.wait_until(lambda: "key 26 with 0" in client.output, LONG, "no key came")
+
+    def test_port_that_somebody_else_takes(self):
+        """It was free as it was looked for, and isn't as wayvnc comes: the next is tried. One that was asked for has to be it."""
+        with socket.create_server((HOST, 0)) as other:
+            taken, found = other.getsockname()[1], view.free_port
+            late = [taken]
+            with unittest.mock.patch.object(view, "free_port", side_effect=lambda *asked: late.pop() if late else found(*asked)):
+                display, client, window = self.viewed()
+            port = self.port(display.viewed.address)
+            self.assertNotEqual(port, taken)
+            self.looks_points_and_types(display, client, window, self.viewer(Line(HOST, port)))
+            with self.assertRaisesRegex(wlframe.Failure, "^wayvnc ended with status 1: "):
+                self.viewed(port=taken)
 
     def test_two_views(self):
         one, two = self.display(view=True), self.display(view=True)
@@ -198,7 +211,7 @@ class Commands(Started):
 
     def test_which_display(self):
         shown = self.start("view", environment={"WAYLAND_DISPLAY": ""}, stderr=subprocess.PIPE)
-        self.assertEqual((shown.wait(LONG), shown.stderr.read()), (1, "view: which display? WAYLAND_DISPLAY names it, as tools/display tells\n"))
+        self.assertEqual((shown.wait(LONG), shown.stderr.read()), (1, "view: which display? Set WAYLAND_DISPLAY to it, as tools/display prints\n"))
 
     def test_display_that_shares_nothing(self):
         display = self.display()
@@ -220,7 +233,7 @@ class Commands(Started):
 
     def test_password_without_view(self):
         done = subprocess.run([sys.executable, TOOLS / "run", "--password", "x", "--", "true"], capture_output=True, text=True, check=False)
-        self.assertEqual((done.returncode, done.stderr), (125, "run: --password is for --view, which isn't given; --help tells more\n"))
+        self.assertEqual((done.returncode, done.stderr), (125, "run: --password needs --view; --help tells more\n"))
 
 
 class Examples(Started):

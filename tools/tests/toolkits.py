@@ -16,13 +16,14 @@ import wlframe  # pylint: disable=wrong-import-position
 
 SIZE = 640, 480
 LONG = 60  # seconds that something may take on a machine that does much else
-SOON = 10  # seconds that a client may take for a key
+SOON = 30  # seconds that a client may take for a key
 TIMES = 5  # that a paste is tried, where a client doesn't wait for the text
 REST = 0.5  # seconds without a change until a window is ready
 PYTHON = "/usr/bin/python3"  # Debian's, which finds what Debian's packages have
 TEXT, OTHER = "Grüße, née", "été"
 TITLE = re.compile(r"^\[")
-PAGE = "data:text/html,<meta charset=utf-8><title>[]</title><input autofocus style=caret-color:white oninput=\"document.title='['+value+']'\">"
+# The page has its title once its entry has the focus.
+PAGE = "data:text/html,<meta charset=utf-8><title>begins</title><input autofocus style=caret-color:white onfocus=oninput() oninput=\"document.title='['+value+']'\">"
 BROWSER = ["--no-sandbox", "--ozone-platform=wayland", "--disable-gpu", "--no-first-run", "--window-size=400,200"]
 
 

@@ -1,6 +1,6 @@
-//! The laws of the desktop where nobody points: what holds of every desktop that comes about, with subsurfaces and with popups;
-//! and what a step marks and leaves that changes one tree of surfaces. Each law is a function that
-//! promises it.
+//! The laws of the desktop while nobody points. They say what holds of every desktop that comes
+//! about, with subsurfaces and with popups, and what a step on one tree of surfaces marks and
+//! leaves. Each law is a function that promises it.
 
 mod in_order;
 mod nobody_points;

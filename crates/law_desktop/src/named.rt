@@ -1,5 +1,6 @@
-//! The surfaces of a client are named by the ids of their wl_surface objects, and kept under numbers. What is kept stands for them after
-//! each request (wayland.xml, wl_surface, wl_subcompositor and wl_subsurface). Each law is a function that promises it.
+//! A client names its surfaces by the ids of their wl_surface objects; they are kept under numbers.
+//! The values kept stand for the surfaces after each request (wayland.xml, wl_surface,
+//! wl_subcompositor and wl_subsurface). Each law is a function that promises it.
 
 ghost use Rattle.law_desktop.specs.Named.{AsksNamed, BeginsNamed, CommitsNamed, CreatesNamed, DestroysNamed, DesynchronisesNamed, LinksNamed};
 ghost use Rattle.law_desktop.specs.Named.{MovesNamed, PlacesNamed, RenamesNamed, RolesNamed, StaysNamed, SynchronisesNamed, UnlinksNamed};
@@ -22,7 +23,8 @@ pub fn begins_named()
     ensures { BeginsNamed }
 {}
 
-/// A request of a surface itself, other than a commit, is asked of it under its number (wayland.xml, wl_surface).
+/// A request of a surface itself, other than a commit, is asked of it under its number
+/// (wayland.xml, wl_surface).
 pub fn asks_named()
     ensures { AsksNamed }
 {}
@@ -37,12 +39,14 @@ pub fn commits_named()
     ensures { CommitsNamed }
 {}
 
-/// A child is linked to its parent under their numbers (wayland.xml, wl_subcompositor.get_subsurface).
+/// A child is linked to its parent under their numbers (wayland.xml,
+/// wl_subcompositor.get_subsurface).
 pub fn links_named()
     ensures { LinksNamed }
 {}
 
-/// Where a child is refused, what is kept stands for the same surfaces (wayland.xml, wl_subcompositor.get_subsurface).
+/// If a child is refused, the values kept stand for the same surfaces (wayland.xml,
+/// wl_subcompositor.get_subsurface).
 pub fn stays_named()
     ensures { StaysNamed }
 {}
@@ -52,7 +56,8 @@ pub fn moves_named()
     ensures { MovesNamed }
 {}
 
-/// A child is placed by its link, beside its parent or another child of it (wayland.xml, wl_subsurface.place_above and place_below).
+/// A child is placed by its link, beside its parent or another child of it (wayland.xml,
+/// wl_subsurface.place_above and place_below).
 pub fn places_named()
     ensures { PlacesNamed }
 {}
@@ -77,38 +82,42 @@ pub fn destroys_named()
     ensures { DestroysNamed }
 {}
 
-/// Names that give the surfaces which are there the same numbers serve as well: an id that is used again may get another number
-/// (wayland.xml, wl_display.delete_id).
+/// Other names serve as well if they give the same numbers to the surfaces that are there: an id
+/// that is used again may get another number (wayland.xml, wl_display.delete_id).
 pub fn renames_named()
     ensures { RenamesNamed }
 {}
 
-/// A new surface is kept under a number that no other has (wayland.xml, wl_compositor.create_surface).
+/// A new surface is kept under a number that no other has (wayland.xml,
+/// wl_compositor.create_surface).
 pub fn creates_named()
     ensures { CreatesNamed }
 {}
 
-/// What is read of a surface under its number is so of it by its id (wayland.xml, wl_surface).
+/// What is read of a surface under its number holds of it by its id (wayland.xml, wl_surface).
 pub fn reads_named()
     ensures { ReadsNamed }
 {}
 
-/// Under a number is a surface that is there by its id, or none (wayland.xml, wl_surface).
+/// A number stands for a surface that is there by its id, or for none (wayland.xml, wl_surface).
 pub fn numbers_named()
     ensures { NumbersNamed }
 {}
 
-/// Other names that give the surfaces the same numbers show the same under each (wayland.xml, wl_display.delete_id).
+/// Other names that give the surfaces the same numbers show the same under each (wayland.xml,
+/// wl_display.delete_id).
 pub fn shows_named()
     ensures { ShowsNamed }
 {}
 
-/// The same buffers are busy, and the same are used, whatever the surfaces are called (wayland.xml, wl_buffer.release).
+/// The same buffers are busy, and the same are used, whatever the surfaces are called (wayland.xml,
+/// wl_buffer.release).
 pub fn buffers_named()
     ensures { BuffersNamed }
 {}
 
-/// A buffer is busy, or used, where it is that of a surface under some number (wayland.xml, wl_buffer.release).
+/// A buffer is busy, or used, if it is that of a surface under some number (wayland.xml,
+/// wl_buffer.release).
 pub fn holds_named()
     ensures { HoldsNamed }
 {}
@@ -118,12 +127,13 @@ pub fn frees_named()
     ensures { FreesNamed }
 {}
 
-/// The link that is kept of a child is the one that lives (wayland.xml, wl_subsurface).
+/// The link kept of a child is the living one (wayland.xml, wl_subsurface).
 pub fn ties_named()
     ensures { TiesNamed }
 {}
 
-/// The link of a child that lives is found by its number (wayland.xml, wl_subcompositor.get_subsurface).
+/// The living link of a child is found by its number (wayland.xml,
+/// wl_subcompositor.get_subsurface).
 pub fn finds_named()
     ensures { FindsNamed }
 {}
@@ -133,12 +143,13 @@ pub fn siblings_named()
     ensures { SiblingsNamed }
 {}
 
-/// For the same reason a child is refused (wayland.xml, wl_subcompositor.get_subsurface).
+/// A child is refused for the same reason (wayland.xml, wl_subcompositor.get_subsurface).
 pub fn refuses_named()
     ensures { RefusesNamed }
 {}
 
-/// The stacks that are kept of a surface are those that its requests make (wayland.xml, wl_subsurface.place_above and place_below).
+/// The stacks kept of a surface are those that its requests make (wayland.xml,
+/// wl_subsurface.place_above and place_below).
 pub fn stacks_named()
     ensures { StacksNamed }
 {}
@@ -148,17 +159,20 @@ pub fn tells_commit<A: Allocator>(changes: &[Change<A>])
     ensures { TellsCommit changes.now }
 {}
 
-/// What is told as a child becomes desynchronised is told of surfaces by their ids (wayland.xml, wl_subsurface.set_desync).
+/// What is told as a child becomes desynchronised is told of surfaces by their ids (wayland.xml,
+/// wl_subsurface.set_desync).
 pub fn tells_desync<A: Allocator>(changes: &[Change<A>])
     ensures { TellsDesync changes.now }
 {}
 
-/// What is told as a link ends is told of surfaces by their ids (wayland.xml, wl_subsurface.destroy).
+/// What is told as a link ends is told of surfaces by their ids (wayland.xml,
+/// wl_subsurface.destroy).
 pub fn tells_unlink<A: Allocator>(changes: &[Change<A>])
     ensures { TellsUnlink changes.now }
 {}
 
-/// What is told as a surface ends is told of surfaces by their ids (wayland.xml, wl_surface.destroy).
+/// What is told as a surface ends is told of surfaces by their ids (wayland.xml,
+/// wl_surface.destroy).
 pub fn tells_end<A: Allocator>(changes: &[Change<A>])
     ensures { TellsEnd changes.now }
 {}

@@ -1,5 +1,5 @@
-//! The laws of what is served, with popups and grabs: what each client owns is in order on every desktop that is reached, with the
-//! pointer put aside. Each law is a function that promises it.
+//! The laws of order with popups and grabs: what each client owns is in order on every desktop that
+//! is reached, with the pointer put aside. Each law is a function that promises it.
 
 ghost use Rattle.law_desktop.specs.OrderedLaws.{DemandsKeepOrdered, EmptyIsOrdered, EndsKeepOrdered, FramesKeepOrdered};
 ghost use Rattle.law_desktop.specs.OrderedLaws.{DismissalsKeepOrdered, MessagesKeepOrdered, MovesKeepOrdered, OrderedHasOrder};
@@ -20,47 +20,47 @@ pub fn ordered_stays()
     ensures { OrderedStays }
 {}
 
-/// So does one message of a client.
+/// One message of a client leaves a desktop in order.
 pub fn messages_keep_ordered()
     ensures { MessagesKeepOrdered }
 {}
 
-/// So does what is kept of the stream of a client that is there.
+/// Keeping the stream of a client that is there leaves a desktop in order.
 pub fn pieces_keep_ordered()
     ensures { PiecesKeepOrdered }
 {}
 
-/// So does the end of a client.
+/// The end of a client leaves a desktop in order.
 pub fn ends_keep_ordered()
     ensures { EndsKeepOrdered }
 {}
 
-/// So does a frame that a client is told of.
+/// A frame that a client is told of leaves a desktop in order.
 pub fn frames_keep_ordered()
     ensures { FramesKeepOrdered }
 {}
 
-/// So does a toplevel that is raised, and one that is moved.
+/// Raising a toplevel leaves a desktop in order, and so does moving one.
 pub fn moves_keep_ordered()
     ensures { MovesKeepOrdered }
 {}
 
-/// Another peer with the same objects and buffers leaves what a client owns in order.
+/// What a client owns stays in order under another peer with the same objects and buffers.
 pub fn peers_keep_ordered()
     ensures { PeersKeepOrdered }
 {}
 
-/// What an accepted message demands leaves what its client owns in order.
+/// What a client owns stays in order after the demand of an accepted message.
 pub fn demands_keep_ordered()
     ensures { DemandsKeepOrdered }
 {}
 
-/// So do popups that are dismissed.
+/// It stays in order when popups are dismissed.
 pub fn dismissals_keep_ordered()
     ensures { DismissalsKeepOrdered }
 {}
 
-/// A press that dismisses the popups of the client that holds a grab leaves a desktop in order.
+/// A press leaves a desktop in order that dismisses the popups of the client that holds a grab.
 pub fn presses_keep_ordered()
     ensures { PressesKeepOrdered }
 {}

@@ -1,6 +1,7 @@
-//! The laws of the windows that are stacked with one toplevel, which are its tree and the trees of its popups (xdg-shell.xml, xdg_popup): that
-//! a message of a client that lives on changes no others, and what of the output has to be marked and may be where they changed, tree by tree.
-//! Each law is a function that promises it.
+//! The laws of the windows stacked with one toplevel: those of its tree and of the trees of its
+//! popups (xdg-shell.xml, xdg_popup). A message of a client that lives on changes no others. Tree
+//! by tree, the laws say what has to be marked of the output, and what may be. Each law is a
+//! function that promises it.
 
 mod demands;
 mod marked;

@@ -1,5 +1,6 @@
-//! The laws of what is told of the surfaces of a tree, under whatever names: it is what is applied of it, and what is marked by that is
-//! neither too little nor too much. Each law is a function that promises it.
+//! The laws of what is told of the surfaces of a tree, under whatever names. It is what is applied
+//! of it, and what is marked by it is neither too little nor too much. Each law is a function that
+//! promises it.
 
 mod one_tree;
 mod renamed_windows;

@@ -1,5 +1,6 @@
-//! The laws of popups that are dismissed as a press hits no surface of the client that holds a grab: what becomes of the windows, which
-//! are stacked with several of its toplevels, and what is marked (xdg-shell.xml, xdg_popup.grab and xdg_popup.popup_done). Each law is a
+//! The laws of popups that a press dismisses, since it hits no surface of the client that holds a
+//! grab (xdg-shell.xml, xdg_popup.grab and xdg_popup.popup_done). They say what becomes of the
+//! windows, which are stacked with several of its toplevels, and what is marked. Each law is a
 //! function that promises it.
 
 mod marks;

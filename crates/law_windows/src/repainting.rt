@@ -1,4 +1,5 @@
-//! The laws of what is marked where trees changed, by the plain windows of the trees. Each law is a function that promises it.
+//! The laws of what is marked when trees change, by the plain windows of the trees. Each law is a
+//! function that promises it.
 
 ghost use Rattle.law_windows.specs.RepaintLaws.{MarksAsApplied, MarksBetween, MarksTreesAsApplied, MarksTreesBetween, SameAsRecords, ToldTogether};
 
@@ -8,19 +9,20 @@ use law_desktop::invariants::{
 use law_desktop::toplevels::marks_by_trees_between;
 use std::alloc::Allocator;
 
-/// The windows of a tree are told to be the same where they keep their records.
+/// The windows of a tree that keep their records are told to be the same.
 pub fn same_as_records()
     ensures { SameAsRecords }
 {}
 
-/// What is marked of the told windows of a tree is the damage that was applied to its surfaces, where the windows keep their records, and else
-/// all points of the windows, before and after (wayland.xml, wl_surface.damage and wl_subsurface).
+/// If the told windows of a tree keep their records, the damage applied to its surfaces is marked.
+/// Else all points of the windows are, before and after (wayland.xml, wl_surface.damage and
+/// wl_subsurface).
 pub fn marks_as_applied<A: Allocator>()
     ensures { MarksAsApplied A }
 {}
 
-/// Where a step changes one tree, what is marked of the tree's told windows is all that the step has to mark, and nothing of the output that it
-/// may not mark.
+/// If a step changes one tree, what is marked of its told windows is all that the step has to mark.
+/// It is nothing of the output that the step may not mark.
 pub fn marks_between<A: Allocator>()
     ensures { MarksBetween A }
 {
@@ -30,18 +32,20 @@ pub fn marks_between<A: Allocator>()
     may_mark_whole_tree();
 }
 
-/// Windows whose trees stand one after another are told so that those of each tree stand together.
+/// If trees stand one after another, they are told with the windows of each tree together.
 pub fn told_together()
     ensures { ToldTogether }
 {}
 
-/// What is marked of the told windows of several trees is what is marked of the plain ones, of each tree by itself.
+/// What is marked of the told windows of several trees is what is marked of the plain ones, of each
+/// tree by itself.
 pub fn marks_trees_as_applied<A: Allocator>()
     ensures { MarksTreesAsApplied A }
 {}
 
-/// Where a step changes the windows stacked with one toplevel, what is marked of their told trees is all that the step has to mark, and
-/// nothing of the output that it may not mark (wayland.xml, wl_surface.damage and wl_subsurface; xdg-shell.xml, xdg_popup).
+/// If a step changes the windows stacked with one toplevel, what is marked of their told trees is
+/// all that the step has to mark. It is nothing of the output that the step may not mark
+/// (wayland.xml, wl_surface.damage and wl_subsurface; xdg-shell.xml, xdg_popup).
 pub fn marks_trees_between<A: Allocator>()
     ensures { MarksTreesBetween A }
 {

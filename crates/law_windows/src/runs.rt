@@ -1,6 +1,8 @@
-//! The laws of the windows that are stacked with one toplevel, a run among all windows: which run the tree of a surface is of, found by the
-//! windows that are shown, and what is marked where a step changes a run, told by other names of its surfaces (wayland.xml, wl_surface and
-//! wl_subsurface; xdg-shell.xml, xdg_popup). Each law is a function that promises it.
+//! The laws of the windows stacked with one toplevel, a run among all windows (wayland.xml,
+//! wl_surface and wl_subsurface; xdg-shell.xml, xdg_popup). They say which run the tree of a
+//! surface belongs to, found by the windows that are shown. They also say what is marked when a
+//! step changes a run, told by other names of its surfaces. Each law is a function that promises
+//! it.
 
 mod demands;
 mod kept;

@@ -25,9 +25,9 @@ pub enum Action {
     DestroyRegion(u32),
     /// wl_shm.create_pool of a new pool of this version and size in bytes.
     CreatePool(u32, u32, i32),
-    /// wl_shm_pool.create_buffer of a new buffer of this version, which lies there.
+    /// wl_shm_pool.create_buffer of a new buffer of this version, which lies at this place.
     CreateBuffer(u32, u32, Place),
-    /// wl_shm_pool.resize of a pool with this store.
+    /// wl_shm_pool.resize of a pool with this store, to this size in bytes.
     ResizePool(StoreNo, i32),
     /// wl_shm_pool.destroy of this pool, which has this store.
     DestroyPool(u32, StoreNo),
@@ -35,7 +35,7 @@ pub enum Action {
     DestroyBuffer(u32, StoreNo),
     /// xdg_wm_base.create_positioner of a new positioner of this version.
     CreatePositioner(u32, u32),
-    /// This is set of this positioner.
+    /// A request of xdg_positioner that sets this.
     SetPositioner(u32, Setting),
     /// xdg_positioner.destroy of this positioner.
     DestroyPositioner(u32),

@@ -7,7 +7,7 @@ use wl_store::StoreError;
 /// A client's number: 1 to 32, the lowest free one first. Any other number is nobody's.
 pub type ClientNo = u32;
 
-/// How a client is.
+/// How a client fares.
 #[derive(Clone, Copy, Debug, PartialEq, Eq)]
 pub enum Fed {
     /// It goes on.
@@ -22,7 +22,7 @@ impl Fed {
     ghost use Rattle.std.specs.Prelude.{◌≡◌};
     ghost use Rattle.spec_desktop.specs.Act.{fed_of};
 
-    /// How a client is that ended so, or didn't.
+    /// How a client fares that ended for this cause, if for any.
     pub fn of(ended: Option<Cause>) -> Fed
         ensures { result ≡ fed_of ended }
     {
@@ -38,7 +38,7 @@ impl Fed {
 pub enum Stored {
     /// They are there.
     Done,
-    /// No client that lives has the number.
+    /// No living client has the number.
     NoClient,
     /// The client has no such store.
     NoStore,
@@ -52,7 +52,7 @@ impl Stored {
     ghost use Rattle.spec_desktop.specs.Stored.{stored};
     ghost use Rattle.spec_desktop.specs.Act.{answer_of};
 
-    /// What a write of a store answered.
+    /// The answer to a write of a store.
     pub fn of(written: Result<(), StoreError>) -> Stored
         ensures { (refusal : Option StoreError) → written ≡ stored refusal → result ≡ answer_of refusal }
     {
@@ -64,7 +64,7 @@ impl Stored {
     }
 }
 
-/// What is answered as something happens: of a step what its call gives.
+/// What the call of a step answers.
 #[derive(Clone, Copy, Debug, PartialEq, Eq)]
 pub enum Done {
     Connect(Result<ClientNo, ConnectError>),

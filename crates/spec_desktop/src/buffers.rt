@@ -6,7 +6,7 @@ ghost use Rattle.spec_desktop.specs.Buffers.{buffer_at, numbered};
 use std::marker::Model;
 use wl_store::{Layout, StoreNo};
 
-/// Where a wl_buffer lies: a store, and where its pixels are there.
+/// Where a wl_buffer lies: its store, and where its pixels are in it.
 #[derive(Drop)]
 pub struct Place {
     store: StoreNo,
@@ -60,7 +60,7 @@ impl Model for ShmBuffer {
 }
 
 impl ShmBuffer {
-    /// The buffer of this number that lies there.
+    /// The buffer of this number that lies at this place.
     pub fn new(number: u64, place: Place) -> ShmBuffer
         ensures { result ≡ numbered number place }
     {

@@ -9,6 +9,6 @@ pub enum Cause {
     Memory,
     /// It left too many bytes unread.
     Slow,
-    /// It went.
+    /// It closed its connection.
     Gone,
 }

@@ -1,7 +1,12 @@
-//! The plain desktop, in definitions: one client in plain values, with what its messages ask and are refused with and what it is told; all clients
-//! with what they own, their windows in stacking order, what a point hits and what the pointer does; what a message and every other step does to
-//! them, which points a step marks to be painted again, and the desktop painted from nothing. In code there are only the types of these, and what
-//! steps answer; the laws are law_desktop.
+//! The plain desktop, in definitions: a compositor in plain values, which all contracts above speak
+//! of. Begin with specs/Desktop.antt, then Demand, what a message asks, and Happens. Its laws are
+//! left to law_desktop.
+//!
+//! The definitions say what a client's messages ask, what they are refused with, and what the
+//! client is told. They say what stands in stacking order, what a point hits, and what the pointer
+//! does. They also say which points a step marks to be painted again, and what the desktop painted
+//! from nothing looks like. The code here has only the types of these values, and what steps
+//! answer.
 #![tactic(auto)]
 
 ghost use Rattle.spec_desktop.specs.HitLaws.{TopmostIsHit};

@@ -4,8 +4,8 @@ ghost use Rattle.wl_blend.specs.Blend.{blended, blended_channel};
 use crate::color::Rgb;
 use wl_store::Argb;
 
-/// The sum of two channels, held at 255. There is no branch in it, since a processor could not foretell which
-/// sums are above.
+/// The sum of two channels, at most 255. It has no branch, since a processor could not foretell
+/// which sums are above.
 fn held(sum: u32) -> u8
     requires { sum ≤ 510 }
     ensures { result ≡ min 255 sum }
@@ -14,7 +14,7 @@ fn held(sum: u32) -> u8
     (sum * (1 - above) + 255 * above) as u8
 }
 
-/// One channel with that of a colour with this alpha laid over it.
+/// One channel after a colour with this alpha is laid over it.
 fn blend_channel(under: u8, over: u8, alpha: u8) -> u8
     ensures { result ≡ blended_channel under over alpha }
 {
@@ -22,9 +22,9 @@ fn blend_channel(under: u8, over: u8, alpha: u8) -> u8
     held(u32::from(over) + (2 * shown + 255) / 510)
 }
 
-/// The colour `under` with `over` laid over it. The channels of `over` are premultiplied by its alpha,
-/// so each is added to what its alpha lets through of the other's, to the nearest; a sum above 255 is
-/// held at 255.
+/// The colour `under` with `over` laid over it. The channels of `over` are premultiplied by its
+/// alpha. Each is added to the share of `under` that this alpha lets through, rounded to the
+/// nearest. A sum above 255 is 255.
 pub fn blend(under: Rgb, over: Argb) -> Rgb
     ensures { result ≡ blended under over }
 {

@@ -32,7 +32,7 @@ fn lacking(bytes: u8x16) -> u8x16
     u8x16::splat(255) - bytes
 }
 
-/// The products, and 128 more, which makes the division round to the nearest.
+/// The products plus 128, so the division rounds to the nearest.
 fn raised_products(under: u16x16, through: u16x16) -> u16x16
     requires under { IsBelow 256 under }
     requires through { IsBelow 256 through }
@@ -42,7 +42,7 @@ fn raised_products(under: u16x16, through: u16x16) -> u16x16
     under * through + u16x16::splat(128)
 }
 
-/// A 255th to the nearest, of the products that were raised: a 256th of the lane and of its own 256th.
+/// The raised products divided by 255, to the nearest: a 256th of the lane and of its own 256th.
 fn divided(raised: u16x16) -> u16x16
     requires { IsBelow 65154 raised }
     ensures lanes { (k : ℕ) → k < 16 → slice_index result k ≡ (slice_index raised k + slice_index raised k / 256) / 256 }
@@ -51,7 +51,7 @@ fn divided(raised: u16x16) -> u16x16
     (raised + (raised >> 8)) >> 8
 }
 
-/// The sums, held at 255: of what is shown, as much is added as there is room for.
+/// The sums, at most 255: `over` plus as much of `shown` as there is room for.
 fn held_sums(over: u8x16, shown: u8x16) -> u8x16
     requires over { AreBytes over }
     requires shown { AreBytes shown }
@@ -90,8 +90,8 @@ pub(crate) fn is_each(bytes: u8x16, value: u8) -> bool
     bytes.simd_ne(u8x16::splat(value)).to_bitmask() == 0
 }
 
-/// Each byte laid over the one below it, by the alpha of its pixel. Opaque pixels are taken as they are, and
-/// those of zeros let all through.
+/// Each byte laid over the one below it, by the alpha of its pixel. Opaque pixels are taken as they
+/// are, and pixels of zeros let all through.
 fn laid(under: u8x16, over: u8x16) -> u8x16
     requires under { AreBytes under }
     requires over { AreBytes over }

@@ -1,4 +1,5 @@
-//! Colours laid over colours: one pixel, and runs of pixels side by side.
+//! Colours laid over colours: one pixel, and runs of pixels side by side. Begin with [`blend`], the
+//! formula of one pixel, then [`blend_run`]. Which pixels lie over which is left to wl_paint.
 #![tactic(auto)]
 
 mod color;

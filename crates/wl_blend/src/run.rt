@@ -66,8 +66,8 @@ fn blend_rest(dst: &mut [u8], src: &[u8], first: usize, format: Format)
 
 /// Lays each pixel of `src` over the one at its place in `dst`.
 ///
-/// Both are whole pixels of 4 bytes, and as many. A pixel of `dst` is blue, green, red and 255, and so
-/// is what is left there; one of `src` is read by its format.
+/// Both are whole pixels of 4 bytes, and equally many. A pixel of `dst` is blue, green, red and
+/// 255, before and after. One of `src` is read by its format.
 pub fn blend_run(dst: &mut [u8], src: &[u8], format: Format)
     requires as_many { length dst.old ≡ length src.now }
     requires whole { length dst.old % 4 ≡ 0 }
@@ -108,7 +108,7 @@ fn is_argb_opaque(src: &[u8]) -> bool
     is_opaque_rest(src, 4 * fours)
 }
 
-/// Whether each of the pixels has the alpha 255, as each of xrgb8888 has. A run of none has.
+/// Whether each of the pixels has the alpha 255. A pixel of xrgb8888 has, and so has an empty run.
 pub fn is_opaque_run(src: &[u8], format: Format) -> bool
     requires { length src.now % 4 ≡ 0 }
     ensures { IsTrue result ↔ ((k : ℕ) → 4 * k < length src.now → (argb_of format src.now k).a ≡ 255) }

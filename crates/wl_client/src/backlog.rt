@@ -9,10 +9,11 @@ use std::marker::Model;
 use wl_proto::{Event, encode};
 use wl_wire::PutError;
 
-/// Bytes that wait to be read or sent, first in, first out.
+/// Bytes that wait to be read or sent, first in, first out. Contracts see it as the bytes that
+/// wait.
 ///
-/// What is taken is only stepped over. The room that it leaves is used again once it is at least as large as
-/// what still waits, so taking costs its own size over any number of calls. It is seen as the bytes that wait.
+/// Taking only steps over bytes. Their room is used again once it is at least as large as what
+/// still waits. So taking costs its own size over any number of calls.
 #[derive(Drop)]
 pub struct Backlog<A: Allocator> {
     bytes: Vec<u8, A>,
@@ -56,8 +57,8 @@ impl<A: Allocator> Backlog<A> {
         self.bytes.extend_from_slice(more)
     }
 
-    /// Adds an event's message at the end. An `Err` changes nothing; it is `TooLong` where the message would pass 65,532
-    /// bytes.
+    /// Adds an event's message at the end. An `Err` changes nothing; it is `TooLong` if the message
+    /// would pass 65,532 bytes.
     pub fn encode(&mut self, event: &Event) -> Result<(), PutError>
         ensures { Puts event.now.object (event_message event.now.body) result self.old self.new }
     {
@@ -81,7 +82,7 @@ impl<A: Allocator> Backlog<A> {
         self.taken = 0;
     }
 
-    /// Moves what waits to the front where that is no more than what was taken since the last time.
+    /// Moves what waits to the front, if that is no more than what was taken since the last time.
     fn make_room(&mut self)
         ensures { self.new ≡ self.old }
     {

@@ -1,4 +1,4 @@
-//! The checks that each message passes before its own errors are looked at.
+//! The checks that each message has to pass before its own errors are looked at.
 
 ghost use Rattle.std.specs.Prelude.{◌≡◌, ◌==◌, ℕ, length, is_some, Ok, Err, Result, map};
 ghost use Rattle.std.specs.List.{list_all};
@@ -17,7 +17,7 @@ fn number_of(interface: Interface) -> u8
     interface as u8
 }
 
-/// Whether an argument names a live object of its interface, or is null where it may be.
+/// Whether an argument names a live object of its interface, or is null and may be.
 fn is_fit<A: Allocator>(objects: &Objects<A>, arg: ObjectArg) -> bool
     ensures { result ≡ fits (objects_in objects.now) arg }
 {
@@ -52,7 +52,7 @@ fn is_free_id<A: Allocator>(objects: &Objects<A>, id: u32) -> bool
     1 <= id && id <= MAX_ID && objects.get(id).is_none()
 }
 
-/// A new id must be free, and there must be room for another object.
+/// Whether a new id is free, and there is room for another object.
 pub(crate) fn check_new_id<A: Allocator, X: Drop>(
     objects: &Objects<A>,
     new_id: Option<NewId>,

@@ -27,11 +27,12 @@ use wl_wire::PutError;
 /// How many bytes may wait for a client.
 const UNSENT_LIMIT: usize = 1_048_576;
 
-/// One client. It is seen as the values that it keeps.
+/// One client. Contracts see it as the values that it keeps.
 #[derive(Drop)]
 pub struct Client<A: Allocator> {
     pub(crate) ended: Option<Cause>,
-    /// Why an event wasn't queued, as long as the client hasn't ended for it. No event is queued while that stands here.
+    /// Why an event wasn't queued, until the client ends for it. No event is queued while a cause
+    /// stands here.
     pub(crate) refused: Option<Cause>,
     pub(crate) requests: u64,
     pub(crate) rest: Backlog<A>,
@@ -96,8 +97,9 @@ impl<A: Allocator + Copy> Client<A> {
         })
     }
 
-    /// Queues an event. An `Err` says why it isn't queued: `Slow` where too many bytes would wait then, or `Memory`. From then on every call
-    /// answers that cause and queues nothing, until the client ends.
+    /// Queues an event. An `Err` says why it isn't queued: `Slow` if too many bytes would wait, or
+    /// `Memory`. From then on every call answers that cause and queues nothing, until the client
+    /// ends.
     pub fn queue(&mut self, event: &Event) -> Result<(), Cause>
         ensures ok { OnOk result ((self.old.refused ≡ None) × IsTrue (has_room self.old.unsent (said_of event.now)) × (self.new ≡ record self.old { unsent = self.old.unsent ++ said_bytes (said_of event.now) })) }
         ensures err { IfErr result (λ e. self.new ≡ record self.old { refused = Some e }) }
@@ -111,7 +113,8 @@ impl<A: Allocator + Copy> Client<A> {
         queued
     }
 
-    /// Puts an event behind those that wait, where that is allowed and there is memory for it. An `Err` changes nothing.
+    /// Puts an event behind those that wait, if that is allowed and there is memory for it. An
+    /// `Err` changes nothing.
     fn try_queue(&mut self, event: &Event) -> Result<(), Cause>
         ensures ok { OnOk result (IsTrue (has_room self.old.unsent (said_of event.now)) × (self.new ≡ record self.old { unsent = self.old.unsent ++ said_bytes (said_of event.now) })) }
         ensures err { OnErr result (self.new ≡ self.old) }
@@ -130,7 +133,7 @@ impl<A: Allocator + Copy> Client<A> {
         }
     }
 
-    /// Ends the client for this cause. It is told nothing.
+    /// Ends the client for this cause. The client isn't told.
     pub fn end(&mut self, cause: Cause)
         ensures cleared { self.new ≡ cleared cause self.old }
         ensures ends { (p : Peer) → IsPeer self.old p → IsPeer self.new (ended cause p) }
@@ -146,7 +149,7 @@ impl<A: Allocator + Copy> Client<A> {
         self.stores = Stores::new(self.alloc);
     }
 
-    /// Ends the client with an error, of which it is told.
+    /// Ends the client with an error, and tells it.
     pub fn refuse(&mut self, refusal: Refusal)
         ensures ended { is_some self.new.ended ≡ true }
         ensures errs { (p : Peer) → IsPeer self.old p → (q : Peer) × Errs refusal p q × IsPeer self.new q }
@@ -158,7 +161,7 @@ impl<A: Allocator + Copy> Client<A> {
                 object: refusal.object,
                 code: refusal.code.number(),
             },
-            // Where the error isn't queued, the client ends as out of memory or of room.
+            // If the error isn't queued, the client ends as out of memory or of room.
             Err(cause) => match cause {
                 Cause::Memory => Cause::Memory,
                 _ => Cause::Slow,
@@ -167,7 +170,7 @@ impl<A: Allocator + Copy> Client<A> {
         self.end(cause);
     }
 
-    /// Queues events in turn. Where one isn't queued, the client ends.
+    /// Queues events in turn. If one isn't queued, the client ends.
     pub fn queue_all(&mut self, events: &[Event])
         ensures table { self.new.ended ≡ None → self.new.objects ≡ self.old.objects }
         ensures queues { (p : Peer) → IsPeer self.old p → (q : Peer) × Queues (map said_of events.now) p q × IsPeer self.new q }
@@ -181,7 +184,7 @@ impl<A: Allocator + Copy> Client<A> {
         }
     }
 
-    /// Ends the client as out of memory, of which it is told where that can be.
+    /// Ends the client as out of memory, and tells it if possible.
     pub fn lack_memory(&mut self)
         ensures ended { is_some self.new.ended ≡ true }
         ensures lacks { (p : Peer) → IsPeer self.old p → (q : Peer) × LacksMemory p q × IsPeer self.new q }
@@ -191,7 +194,7 @@ impl<A: Allocator + Copy> Client<A> {
         self.end(Cause::Memory);
     }
 
-    /// Makes an object, which tells these events.
+    /// Makes an object, and queues these events of it.
     pub(crate) fn make(&mut self, id: u32, interface: Interface, version: u32, events: &[Event])
         ensures makes { (p : Peer) → IsPeer self.old p → (q : Peer) × WantsOr true (Queues (map said_of events.now) (made id (object_at_version interface version) p) q) p q × IsPeer self.new q }
         ensures table { self.new.ended ≡ None → HoldsAt self.old.objects self.new.objects id (Some (entry_at_version interface version)) }
@@ -205,7 +208,8 @@ impl<A: Allocator + Copy> Client<A> {
         self.add(id, entry, events);
     }
 
-    /// Makes an object with this entry in the table, which tells these events. Out of memory, the client ends.
+    /// Enters an object with this entry in the table, and queues these events of it. Out of memory,
+    /// the client ends.
     pub fn add(&mut self, id: u32, entry: Entry, events: &[Event])
         ensures makes { (p : Peer) → IsPeer self.old p → (q : Peer) × WantsOr true (Queues (map said_of events.now) (made id (object_of entry) p) q) p q × IsPeer self.new q }
         ensures table { self.new.ended ≡ None → HoldsAt self.old.objects self.new.objects id (Some entry) }
@@ -217,7 +221,7 @@ impl<A: Allocator + Copy> Client<A> {
         }
     }
 
-    /// Removes an object, whose id is given back.
+    /// Removes an object, and gives its id back.
     pub fn remove(&mut self, id: u32)
         ensures table { self.new.ended ≡ None → HoldsAt self.old.objects self.new.objects id None }
         ensures removes { (p : Peer) → IsPeer self.old p → (q : Peer) × Queues (id_deleted id ∷ []) (removed id p) q × IsPeer self.new q }
@@ -226,8 +230,9 @@ impl<A: Allocator + Copy> Client<A> {
         let _removed = self.objects.remove(id);
         self.queue_all(&[deletion_event(id)]);
     }
-    /// Removes an object, whose id is given back, and with it these callbacks, whose ids are given back after it. Then it is told that a
-    /// buffer is released, if one is (wayland.xml, wl_display.delete_id, wl_surface.frame and wl_buffer.release).
+    /// Removes an object and these callbacks, and gives the ids back: first the object's, then
+    /// theirs. Then it tells that a buffer is released, if one is (wayland.xml,
+    /// wl_display.delete_id, wl_surface.frame and wl_buffer.release).
     pub fn remove_with(&mut self, id: u32, callbacks: &[u32], released: Option<u32>)
         ensures table { self.new.ended ≡ None → HoldsWithout self.old.objects self.new.objects (id ∷ callbacks.now) }
         ensures removes { (p : Peer) → IsPeer self.old p
@@ -247,7 +252,7 @@ impl<A: Allocator + Copy> Client<A> {
         }
     }
 
-    /// Takes objects out of the table, of which nothing is told yet.
+    /// Takes objects out of the table, and tells nothing yet.
     fn take_out(&mut self, ids: &[u32])
         ensures removes { (p : Peer) → IsPeer self.old p → IsPeer self.new (all_removed ids.now p) }
         ensures table { HoldsWithout self.old.objects self.new.objects ids.now }
@@ -258,7 +263,7 @@ impl<A: Allocator + Copy> Client<A> {
         }
     }
 
-    /// Takes an object out of the table, of which nothing is told yet.
+    /// Takes an object out of the table, and tells nothing yet.
     fn take_out_one(&mut self, id: u32)
         ensures removes { (p : Peer) → IsPeer self.old p → IsPeer self.new (removed id p) }
         ensures table { HoldsAt self.old.objects self.new.objects id None }
@@ -267,8 +272,8 @@ impl<A: Allocator + Copy> Client<A> {
         let _removed = self.objects.remove(id);
     }
 
-    /// Queues wl_display.delete_id of each of these ids in turn. False where one isn't queued: the client ends then
-    /// (wayland.xml, wl_display.delete_id).
+    /// Queues wl_display.delete_id of each of these ids in turn (wayland.xml,
+    /// wl_display.delete_id). The answer is false if one isn't queued; the client ends then.
     fn queue_deletions(&mut self, ids: &[u32]) -> bool
         ensures table { MatchBool result (self.new.objects ≡ self.old.objects) (is_some self.new.ended ≡ true) }
         ensures queues { (p : Peer) → IsPeer self.old p
@@ -284,8 +289,9 @@ impl<A: Allocator + Copy> Client<A> {
         true
     }
 
-    /// Tells that a frame's callback is done at this time, in milliseconds, and removes it: its id is given back (wayland.xml,
-    /// wl_surface.frame: "The object returned by this request will be destroyed by the compositor after the callback is fired").
+    /// Tells that a frame's callback is done at this time, in milliseconds. Then it removes the
+    /// callback and gives its id back (wayland.xml, wl_surface.frame: "The object returned by this
+    /// request will be destroyed by the compositor after the callback is fired").
     pub fn finish(&mut self, callback: u32, time: u32)
         ensures table { self.new.ended ≡ None → HoldsAt self.old.objects self.new.objects callback None }
         ensures tells { (p : Peer) → IsPeer self.old p
@@ -296,7 +302,7 @@ impl<A: Allocator + Copy> Client<A> {
         self.queue_all(&[frame_event(callback, time), deletion_event(callback)]);
     }
 
-    /// A request more is counted, as long as its number has 64 bits; past the greatest of those the count stays.
+    /// Counts one more request. The count stays at the greatest number of 64 bits.
     pub fn count(&mut self)
         ensures only { self.new ≡ record self.old { requests = self.new.requests } }
         ensures counted { self.new.requests ≡ min (self.old.requests + 1) most_counted }
@@ -339,7 +345,7 @@ impl<A: Allocator + Copy> Client<A> {
         self.objects.get(id)
     }
 
-    /// The least id of an object of this interface that stands for this place among those of its interface, if there is one.
+    /// The least id of an object with this interface and target, if there is one.
     pub fn find(&self, interface: Interface, target: usize) -> Option<u32>
         ensures { Finds self.now.objects interface target result }
     {
@@ -374,21 +380,21 @@ impl<A: Allocator + Copy> Client<A> {
         self.requests
     }
 
-    /// The serial that the next event with one has. It isn't drawn by that.
+    /// The serial of the next event that has one. It isn't drawn by asking.
     pub fn serial(&self) -> u32
         ensures { result ≡ self.now.serial }
     {
         self.serial
     }
 
-    /// Draws the serial: the next is one more, and after 4,294,967,295 comes 1.
+    /// Draws the serial: the next is one more, and 1 after 4,294,967,295.
     pub fn draw_serial(&mut self)
         ensures { self.new ≡ record self.old { serial = if self.old.serial == 4294967295 then 1 else self.old.serial + 1 } }
     {
         self.serial = self.serial.checked_add(1).unwrap_or(1);
     }
 
-    /// One use of a store less. At none the store is gone.
+    /// Takes one use from a store. Without uses the store goes.
     pub fn let_go(&mut self, store: StoreNo)
         ensures { self.new ≡ record self.old { stores = released store self.old.stores } }
     {
@@ -413,7 +419,8 @@ impl<A: Allocator + Copy> Client<A> {
         self.ended.is_some()
     }
 
-    /// Why the client is to end, if it is: an event wasn't queued for this cause, and the client hasn't ended since.
+    /// Why the client is to end, if it is: an event wasn't queued for this cause, and the client
+    /// hasn't ended since.
     pub fn to_end_for(&self) -> Option<Cause>
         ensures { result ≡ self.now.refused }
     {
@@ -427,7 +434,7 @@ impl<A: Allocator + Copy> Client<A> {
         self.unsent.as_slice()
     }
 
-    /// The client goes. True where it was alive.
+    /// The client closed its connection. The answer is true if it was alive.
     pub fn gone(&mut self) -> bool
         ensures { (p : Peer) → IsPeer self.old p → IsPeer self.new (left_by p.status p) × (result ≡ is_none p.status) }
     {
@@ -438,7 +445,8 @@ impl<A: Allocator + Copy> Client<A> {
         true
     }
 
-    /// So many unsent bytes were sent. False and unchanged where there are fewer.
+    /// Drops this many unsent bytes, which were sent. If there are fewer, the answer is false and
+    /// nothing changes.
     pub fn sent(&mut self, count: usize) -> bool
         ensures sends { (p : Peer) → IsPeer self.old p → IsPeer self.new (sent_by count p) × (result ≡ nat_le count (length p.unsent)) }
         ensures table { self.new.objects ≡ self.old.objects }
@@ -450,7 +458,8 @@ impl<A: Allocator + Copy> Client<A> {
         true
     }
 
-    /// Puts bytes into a store. `NoStore`, or `OutOfRange` where they pass its end; nothing is changed then.
+    /// Puts bytes into a store. `NoStore` if there is none, `OutOfRange` if they pass its end;
+    /// nothing changes then.
     pub fn store(&mut self, store: StoreNo, at: u32, bytes: &[u8]) -> Result<(), StoreError>
         ensures answer { result ≡ stored (write_refusal store at (length bytes.now) self.old.stores) }
         ensures table { self.new.objects ≡ self.old.objects }
@@ -459,14 +468,14 @@ impl<A: Allocator + Copy> Client<A> {
         self.stores.write(store, at, bytes)
     }
 
-    /// How many bytes a store has; None where it isn't live.
+    /// How many bytes a store has, if it is live.
     pub fn store_size(&self, store: StoreNo) -> Option<u32>
         ensures { result ≡ option_map (λ s. length s.bytes) (store_at store self.now.stores) }
     {
         self.stores.size(store)
     }
 
-    /// The least number of a live store that is above this one; None where there is none.
+    /// The least number of a live store that is above this one, if there is one.
     pub fn next_store(&self, number: StoreNo) -> Option<StoreNo>
         ensures next { result ≡ next_after number self.now.stores }
         ensures rises { IfSome result (λ next. number < next) }
@@ -474,8 +483,8 @@ impl<A: Allocator + Copy> Client<A> {
         self.stores.next_after(number)
     }
 
-    /// Lends the bytes of a store as the content of a surface that is turned so and has this scale; None where the store isn't live or the
-    /// layout passes its end.
+    /// Lends the bytes of a store as the content of a surface with this transform and scale. `None`
+    /// if the store isn't live or the layout passes its end.
     pub fn picture(
         &self,
         store: StoreNo,

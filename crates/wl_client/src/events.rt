@@ -39,7 +39,8 @@ pub fn callback_event(callback: u32) -> Event<'static>
     }
 }
 
-/// wl_callback.done of a frame's callback, with the time in milliseconds (wayland.xml, wl_surface.frame and wl_callback.done).
+/// wl_callback.done of a frame's callback, with the time in milliseconds (wayland.xml,
+/// wl_surface.frame and wl_callback.done).
 pub fn frame_event(callback: u32, time: u32) -> Event<'static>
     ensures { said_of result ≡ said callback (says WlCallback 0 (Word time ∷ [])) }
 {

@@ -3,7 +3,7 @@
 use spec_desktop::Refusal;
 use wl_proto::Request;
 
-/// What the first message of what came is, before its own errors are looked at.
+/// How the first message of a client's bytes fares, before its own errors are looked at.
 #[derive(Drop)]
 pub enum First<'a> {
     /// No whole message is there.
@@ -12,13 +12,13 @@ pub enum First<'a> {
     Refused(Refusal),
     /// It passed so far.
     Request {
-        /// The object that it is to.
+        /// The object that it is sent to.
         object: u32,
         /// The object's version.
         version: u32,
         /// How many bytes the message has, with its header.
         size: usize,
-        /// The place of what the object stands for.
+        /// The object's target: the number of what it stands for.
         target: usize,
         request: Request<'a>,
     },

@@ -66,7 +66,7 @@ fn globals() -> [Global; 6]
     ]
 }
 
-/// The interface of the global that a bind names, where it names one at one of its versions.
+/// The interface of the global that a bind names, if it names one at one of its versions.
 pub fn interface_bound(name: u32, text: &[u8], version: u32) -> Option<Interface>
     ensures { result ≡ bound_interface name text.now version }
 {

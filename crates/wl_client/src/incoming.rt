@@ -1,4 +1,4 @@
-//! What came from a client: its first message, and the taking of it.
+//! The bytes that came from a client: its first message, and taking it.
 
 ghost use Rattle.std.specs.Prelude.{◌≡◌, ◌++◌, drop, length, OnOk, OnErr};
 ghost use Rattle.wl_wire.specs.Wire.{split_of};
@@ -14,7 +14,8 @@ use wl_proto::decode;
 use wl_wire::{Split, split};
 
 impl<A: Allocator + Copy> Client<A> {
-    /// A piece comes. It is kept behind what came before, and no message is taken. An `Err` changes nothing.
+    /// Keeps a piece of bytes behind those that came before. No message is taken. An `Err` changes
+    /// nothing.
     pub fn keep(&mut self, piece: &[u8]) -> Result<(), AllocError>
         ensures ok { OnOk result (self.new ≡ record self.old { rest = self.old.rest ++ piece.now }) }
         ensures err { OnErr result (self.new ≡ self.old) }
@@ -22,7 +23,7 @@ impl<A: Allocator + Copy> Client<A> {
         self.rest.append(piece)
     }
 
-    /// What the first message of what came is, before its own errors are looked at. It isn't taken.
+    /// How the first message fares, before its own errors are looked at. It isn't taken.
     pub fn first(&self) -> First<'_>
         ensures { IsFirst self.now result }
     {
@@ -64,7 +65,7 @@ impl<A: Allocator + Copy> Client<A> {
         }
     }
 
-    /// The first message of what came is taken, where it has this size.
+    /// Takes the first message, if it has this size.
     pub fn take_first(&mut self, size: usize)
         ensures { self.new ≡ record self.old { rest = drop size self.old.rest } }
     {

@@ -14,7 +14,7 @@ use std::alloc::Allocator;
 use wl_proto::Request;
 
 impl<A: Allocator + Copy> Client<A> {
-    /// The request's own errors, and what it asks of the object; None where it is of another interface.
+    /// What the request asks of the object, or its own error. `None` if it is of another interface.
     pub fn own_action(
         &self,
         object: u32,

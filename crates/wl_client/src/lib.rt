@@ -1,4 +1,6 @@
-//! One client of a compositor: the bytes that came from it, its objects and what they hold, and the bytes that wait to be sent to it.
+//! One client of a compositor: the bytes that came from it, its objects and what they hold, and the
+//! bytes that wait to be sent to it. Begin with [`Client`], then `first`, `own_action` and
+//! `serve_own`. Requests that touch surfaces, popups or the pointer are left to wl_requests.
 #![tactic(auto)]
 
 mod backlog;

@@ -12,11 +12,12 @@ use std::alloc::Allocator;
 use wl_proto::{Event, EventBody, WlPointerEvent};
 use wl_wire::Fixed;
 
-/// What the wl_pointers of a client are told, less the serial (wayland.xml, wl_pointer, version 1). A surface is named by its id, and a
-/// point is relative to the corner of the surface, in 24.8 fixed numbers: 256 a pixel.
+/// What the wl_pointers of a client are told, without the serial (wayland.xml, wl_pointer, version
+/// 1). A surface is named by its id. A point is relative to the corner of the surface, in 24.8
+/// fixed numbers: 256 a pixel.
 #[derive(Clone, Copy, Debug, PartialEq, Eq)]
 pub enum PointerEvent {
-    /// The pointer comes to a surface, at this point.
+    /// The pointer enters a surface, at this point.
     Enter {
         surface: u32,
         x: i32,
@@ -26,13 +27,13 @@ pub enum PointerEvent {
     Leave {
         surface: u32,
     },
-    /// It goes to this point of the surface that it is at; the time is in milliseconds.
+    /// It moves to this point of the surface that it is at. The time is in milliseconds.
     Motion {
         time: u32,
         x: i32,
         y: i32,
     },
-    /// A button, named by its code, is pressed or released; the time is in milliseconds.
+    /// A button, named by its code, is pressed or released. The time is in milliseconds.
     Button {
         time: u32,
         button: u32,
@@ -90,13 +91,15 @@ impl<A: Allocator + Copy> Client<A> {
     ghost use Rattle.wl_client.specs.Agreement.{IsPeer};
     ghost use Rattle.wl_client.specs.View.{opened};
 
-    /// Tells each of these wl_pointers an event, in this order. All are told one serial, which is drawn for them; where there is no wl_pointer,
-    /// or the event has no serial, none is drawn. It stops at the first event that isn't queued: the client is to end then, for this
-    /// cause, and is told nothing more until that (see `queue`).
+    /// Queues an event for each of these wl_pointers, in this order. All are told one serial, which
+    /// is drawn for them. None is drawn without wl_pointers, or if the event has no serial.
+    ///
+    /// It stops at the first event that isn't queued. The client is to end for that cause, and is
+    /// told nothing more until then (see `queue`).
     ///
     /// # Errors
     ///
-    /// Why an event wasn't queued: `Slow` where too many bytes would wait then, or `Memory`.
+    /// Why an event wasn't queued: `Slow` if too many bytes would wait, or `Memory`.
     pub fn tell_pointers(&mut self, pointers: &[u32], event: PointerEvent) -> Result<(), Cause>
         ensures tells { (p : Peer) → IsPeer self.old p → (q : Peer) × TellsPointers event pointers.now p q self.new.refused × IsPeer (opened self.new) q }
         ensures only { self.new ≡ record self.old { unsent = self.new.unsent; refused = self.new.refused; serial = self.new.serial } }
@@ -108,7 +111,7 @@ impl<A: Allocator + Copy> Client<A> {
         self.queue_for_each(pointers, event, serial)
     }
 
-    /// Draws the serial for an event that these wl_pointers are told, if it has one and there are any.
+    /// Draws the serial of an event for these wl_pointers, if it has one and there are any.
     fn draw_for(&mut self, pointers: &[u32], event: PointerEvent)
         ensures { self.new ≡ record self.old { serial = serial_after event pointers.now self.old.serial } }
     {

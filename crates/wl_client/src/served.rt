@@ -11,11 +11,12 @@ pub enum Served {
     More,
     /// It is to an object of an interface that isn't served here. Nothing changed.
     Other,
-    /// It was taken, and the client ended. It was told of this error; out of memory that is wl_display's no_memory.
+    /// It was taken, and the client ended. It was told of this error; out of memory that is
+    /// wl_display's no_memory.
     Refused { object: u32, code: u32 },
 }
 
-/// What is to be done of a client's first message.
+/// What is to be done with a client's first message.
 #[derive(Drop)]
 pub(crate) enum Next {
     /// There is no whole message.
@@ -24,6 +25,6 @@ pub(crate) enum Next {
     Other,
     /// It is refused, whatever its own errors are.
     Refused(Refusal),
-    /// It has this size, and asks this, or is refused by its own errors.
+    /// It has this size, and asks this or has this error.
     Own(usize, Result<Action, Refusal>),
 }

@@ -1,4 +1,4 @@
-//! One message at a time, of a client whose surfaces use some of its buffers.
+//! One message at a time, for a client whose surfaces use some of its buffers.
 
 ghost use Rattle.std.specs.Prelude.{ℕ, Bool, ◌≡◌, ◌≤◌, ◌<◌, is_some, length, true, false, None};
 ghost use Rattle.spec_desktop.specs.Peer.{Errs, IsIdleAt, Peer, counted};
@@ -14,7 +14,7 @@ use wl_surface::SurfaceStates;
 impl<A: Allocator + Copy> Client<A> {
     ghost use Rattle.wl_client.specs.Agreement.{IsPeer};
 
-    /// What is to be done of the first message.
+    /// What is to be done with the first message.
     fn next(&self) -> Next
         ensures { IsNext self.now result }
     {
@@ -50,7 +50,7 @@ impl<A: Allocator + Copy> Client<A> {
         }
     }
 
-    /// The first message is refused.
+    /// Refuses the first message.
     fn refused(&mut self, refusal: Refusal) -> Served
         ensures taken { was_taken result ≡ true }
         ensures ended { is_some self.new.ended ≡ true }
@@ -79,8 +79,9 @@ impl<A: Allocator + Copy> Client<A> {
         }
     }
 
-    /// Takes the first message of a client that lives, where it is of this size and of one of the client's own interfaces, and asks this or is
-    /// refused by its own errors so. A wl_buffer that goes leaves its store the use of a buffer that one of the surfaces uses.
+    /// Takes the first message of a living client, which has this size and is of one of the
+    /// client's own interfaces. `judged` is what it asks, or its own error. When a wl_buffer goes,
+    /// a surface that uses the buffer keeps its use of the store.
     pub fn serve_own(
         &mut self,
         size: usize,
@@ -106,8 +107,9 @@ impl<A: Allocator + Copy> Client<A> {
         }
     }
 
-    /// Takes the first message of a client that lives, where it is of one of the client's own interfaces, or is refused before its own errors are
-    /// looked at. A wl_buffer that goes leaves its store the use of a buffer that one of the surfaces uses.
+    /// Takes the first message of a living client, if it is of one of the client's own interfaces,
+    /// or is refused before its own errors are looked at. When a wl_buffer goes, a surface that
+    /// uses the buffer keeps its use of the store.
     pub fn serve(&mut self, surfaces: &SurfaceStates<A>) -> Served
         ensures serves { was_taken result ≡ true → (used : ℕ → Bool) → AreUsed surfaces.now used → (p : Peer) → IsPeer self.old p
             → (q : Peer) × ServesWith used p q × IsPeer self.new q }

@@ -1,4 +1,4 @@
-//! The requests of wl_buffer.
+//! The requests of wl_buffer, which holds the pixels of a surface: its destroy.
 
 ghost use Rattle.std.specs.Prelude.{ℕ, Bool, ◌≡◌, ◌≤◌, length};
 ghost use Rattle.spec_desktop.specs.Judgement.{buffer_destroyed};
@@ -33,7 +33,7 @@ impl<A: Allocator + Copy> Client<A> {
     ghost use Rattle.spec_desktop.specs.Peer.{Acts, Peer};
     ghost use Rattle.spec_desktop.specs.declared.actions.Action.TheVariants.{DestroyBuffer};
 
-    /// A buffer goes, and its use of the store.
+    /// Removes a buffer, and its use of the store.
     pub(crate) fn destroy_buffer(&mut self, id: u32, store: StoreNo)
         ensures acts { (p : Peer) → IsPeer self.old p → (q : Peer) × Acts (DestroyBuffer id store) p q × IsPeer self.new q }
         ensures table { self.new.ended ≡ None → HoldsAt self.old.objects self.new.objects id None }
@@ -54,7 +54,7 @@ impl<A: Allocator + Copy> Client<A> {
         }
     }
 
-    /// A buffer goes, and its use of the store, unless a surface uses it.
+    /// Removes a buffer, and its use of the store unless a surface uses it.
     pub(crate) fn destroy_buffer_with(
         &mut self,
         id: u32,

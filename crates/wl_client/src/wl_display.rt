@@ -1,4 +1,5 @@
-//! The requests of wl_display.
+//! The requests of wl_display, with which each connection begins: sync, a round trip, and
+//! get_registry.
 
 ghost use Rattle.std.specs.Prelude.{◌≡◌, ◌≤◌, length};
 ghost use Rattle.spec_desktop.specs.Judgement.{display_action};
@@ -38,7 +39,7 @@ impl<A: Allocator + Copy> Client<A> {
         self.queue_all(&[callback_event(callback), deletion_event(callback)]);
     }
 
-    /// A registry, which tells the globals.
+    /// Makes a registry, which tells the globals.
     pub(crate) fn get_registry(&mut self, registry: u32)
         ensures acts { (p : Peer) → IsPeer self.old p → (q : Peer) × Acts (GetRegistry registry) p q × IsPeer self.new q }
         ensures table { self.new.ended ≡ None → HoldsAt self.old.objects self.new.objects registry (Some (entry_at_version WlRegistry 1)) }

@@ -1,4 +1,4 @@
-//! The requests of wl_region.
+//! The requests of wl_region, an area of a surface that adds and subtracts of rectangles make.
 
 ghost use Rattle.std.specs.Prelude.{◌≡◌, ◌≤◌, length};
 ghost use Rattle.std.specs.Option.{option_map};
@@ -12,7 +12,7 @@ use std::collections::BTreeMap;
 use wl_geom::{MAX_CHANGES, Rect, Region};
 use wl_proto::{Interface, WlRegionRequest};
 
-/// What a request of a wl_region asks, or its refusal where the region has all its changes.
+/// What a request of a wl_region asks, or its refusal if the region has all its changes.
 pub(crate) fn action<A: Allocator>(
     regions: &BTreeMap<u32, Region<A>, A>,
     object: u32,
@@ -62,7 +62,7 @@ impl<A: Allocator + Copy> Client<A> {
     ghost use Rattle.spec_desktop.specs.Peer.{Acts, Peer};
     ghost use Rattle.spec_desktop.specs.declared.actions.Action.TheVariants.{CreateRegion, AddToRegion, SubtractFromRegion, DestroyRegion};
 
-    /// A new region, which is empty.
+    /// Makes an empty region.
     pub fn create_region(&mut self, id: u32, version: u32)
         ensures acts { (p : Peer) → IsPeer self.old p → (q : Peer) × Acts (CreateRegion id version) p q × IsPeer self.new q }
         ensures table { self.new.ended ≡ None → HoldsAt self.old.objects self.new.objects id (Some (entry_at_version WlRegion version)) }
@@ -74,7 +74,7 @@ impl<A: Allocator + Copy> Client<A> {
         }
     }
 
-    /// The rectangle is added to a region.
+    /// Adds the rectangle to a region.
     pub(crate) fn add_to_region(&mut self, id: u32, rect: Rect)
         ensures acts { (p : Peer) → IsPeer self.old p → (q : Peer) × Acts (AddToRegion id rect) p q × IsPeer self.new q }
         ensures table { self.new.ended ≡ None → self.new.objects ≡ self.old.objects }
@@ -89,7 +89,7 @@ impl<A: Allocator + Copy> Client<A> {
         }
     }
 
-    /// The rectangle is taken from a region.
+    /// Takes the rectangle from a region.
     pub(crate) fn subtract_from_region(&mut self, id: u32, rect: Rect)
         ensures acts { (p : Peer) → IsPeer self.old p → (q : Peer) × Acts (SubtractFromRegion id rect) p q × IsPeer self.new q }
         ensures table { self.new.ended ≡ None → self.new.objects ≡ self.old.objects }
@@ -104,7 +104,7 @@ impl<A: Allocator + Copy> Client<A> {
         }
     }
 
-    /// A region goes.
+    /// Removes a region.
     pub(crate) fn destroy_region(&mut self, id: u32)
         ensures acts { (p : Peer) → IsPeer self.old p → (q : Peer) × Acts (DestroyRegion id) p q × IsPeer self.new q }
         ensures table { self.new.ended ≡ None → HoldsAt self.old.objects self.new.objects id None }

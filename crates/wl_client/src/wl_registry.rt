@@ -1,4 +1,4 @@
-//! The requests of wl_registry.
+//! The request of wl_registry: bind makes an object for a global.
 
 ghost use Rattle.std.specs.Prelude.{◌≡◌, ◌≤◌, length};
 ghost use Rattle.spec_desktop.specs.Judgement.{registry_action};
@@ -10,7 +10,7 @@ use spec_desktop::{Action, ErrorCode, Refusal};
 use std::alloc::Allocator;
 use wl_proto::{Interface, WlRegistryRequest};
 
-/// What a bind asks, where it is of one of the globals' versions.
+/// What a bind asks, if it names a global at one of its versions; else its refusal.
 pub(crate) fn action(request: &WlRegistryRequest) -> Result<Action, Refusal>
     ensures { result ≡ registry_action request.now }
 {
@@ -35,7 +35,7 @@ impl<A: Allocator + Copy> Client<A> {
     ghost use Rattle.spec_desktop.specs.Peer.{Acts, Peer};
     ghost use Rattle.spec_desktop.specs.declared.actions.Action.TheVariants.{Bind};
 
-    /// Makes the object of a bind, which tells what its interface tells at once.
+    /// Makes the object of a bind, which tells at once what its interface tells then.
     pub(crate) fn bind(&mut self, id: u32, interface: Interface, version: u32)
         ensures acts { (p : Peer) → IsPeer self.old p → (q : Peer) × Acts (Bind id interface version) p q × IsPeer self.new q }
         ensures table { self.new.ended ≡ None → HoldsAt self.old.objects self.new.objects id (Some (entry_at_version interface version)) }

@@ -1,4 +1,4 @@
-//! The requests of wl_shm.
+//! The request of wl_shm: create_pool shares memory of the client with the compositor.
 
 ghost use Rattle.std.specs.Prelude.{◌≡◌, ◌≤◌, length};
 ghost use Rattle.spec_desktop.specs.Judgement.{shm_action};
@@ -9,7 +9,8 @@ use std::alloc::Allocator;
 use wl_proto::{Interface, WlShmRequest};
 use wl_store::{StoreError, Stores};
 
-/// What a create_pool to a wl_shm of this version asks, or its refusal: the limits on stores, then its size.
+/// What a create_pool to a wl_shm of this version asks, or its refusal: the limits on stores come
+/// first, then its size.
 pub(crate) fn action<A: Allocator>(
     stores: &Stores<A>,
     object: u32,
@@ -36,7 +37,7 @@ impl<A: Allocator + Copy> Client<A> {
     ghost use Rattle.spec_desktop.specs.Peer.{Acts, Peer};
     ghost use Rattle.spec_desktop.specs.declared.actions.Action.TheVariants.{CreatePool};
 
-    /// A new pool with the client's next store.
+    /// Makes a pool with the client's next store.
     pub(crate) fn create_pool(&mut self, id: u32, version: u32, size: i32)
         ensures acts { (p : Peer) → IsPeer self.old p → (q : Peer) × Acts (CreatePool id version size) p q × IsPeer self.new q }
         ensures table { self.new.ended ≡ None → HoldsAt self.old.objects self.new.objects id (Some (entry_at_version WlShmPool version)) }

@@ -1,4 +1,4 @@
-//! The requests of wl_shm_pool.
+//! The requests of wl_shm_pool, which cut buffers from shared memory and let it grow.
 
 ghost use Rattle.std.specs.Prelude.{◌≡◌, ◌≤◌, length};
 ghost use Rattle.spec_desktop.specs.Judgement.{buffer_created, layout_refused, pool_action, pool_resized};
@@ -60,7 +60,8 @@ struct Asked {
     format: u32,
 }
 
-/// A new buffer, or its refusal: the limit on a store's uses, then the format, then where the buffer lies.
+/// A new buffer, or its refusal: by the limit on a store's uses, then the format, then where the
+/// buffer lies.
 fn create_buffer<A: Allocator>(
     stores: &Stores<A>,
     object: u32,
@@ -98,7 +99,7 @@ fn layout_refusal(object: u32, error: LayoutError) -> Refusal
     Refusal::of(object, code)
 }
 
-/// A pool's new size, or its refusal: the limit on the bytes of all stores, then a smaller size.
+/// A pool's new size, or its refusal: by the limit on the bytes of all stores, then a smaller size.
 fn resize<A: Allocator>(
     stores: &Stores<A>,
     object: u32,
@@ -123,7 +124,8 @@ impl<A: Allocator + Copy> Client<A> {
     ghost use Rattle.spec_desktop.specs.Peer.{Acts, Peer};
     ghost use Rattle.spec_desktop.specs.declared.actions.Action.TheVariants.{CreateBuffer, ResizePool, DestroyPool};
 
-    /// A new buffer, which uses its store. Its number is that of its request. There is no memory for a number of more than 64 bits.
+    /// Makes a buffer, which uses its store. Its number is that of its request. A number of more
+    /// than 64 bits counts as no memory.
     pub(crate) fn create_buffer(&mut self, id: u32, version: u32, place: Place)
         ensures acts { (p : Peer) → IsPeer self.old p → (q : Peer) × Acts (CreateBuffer id version place) p q × IsPeer self.new q }
         ensures table { self.new.ended ≡ None → HoldsAt self.old.objects self.new.objects id (Some (entry_at_version WlBuffer version)) }
@@ -144,7 +146,7 @@ impl<A: Allocator + Copy> Client<A> {
         }
     }
 
-    /// The store of a pool grows.
+    /// Lets the store of a pool grow.
     pub(crate) fn resize_pool(&mut self, store: StoreNo, size: i32)
         ensures acts { (p : Peer) → IsPeer self.old p → (q : Peer) × Acts (ResizePool store size) p q × IsPeer self.new q }
         ensures table { self.new.ended ≡ None → self.new.objects ≡ self.old.objects }
@@ -156,7 +158,7 @@ impl<A: Allocator + Copy> Client<A> {
         }
     }
 
-    /// A pool goes. Its store lives on while buffers use it.
+    /// Removes a pool. Its store lives on while buffers use it.
     pub(crate) fn destroy_pool(&mut self, id: u32, store: StoreNo)
         ensures acts { (p : Peer) → IsPeer self.old p → (q : Peer) × Acts (DestroyPool id store) p q × IsPeer self.new q }
         ensures table { self.new.ended ≡ None → HoldsAt self.old.objects self.new.objects id None }

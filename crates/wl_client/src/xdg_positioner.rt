@@ -1,4 +1,5 @@
-//! The requests of xdg_positioner.
+//! The requests of xdg_positioner, which set the rules by which a popup is placed beside its
+//! parent.
 
 ghost use Rattle.std.specs.Prelude.{◌≡◌, ◌≤◌, length};
 ghost use Rattle.spec_desktop.specs.Judgement.{positioner_action, set_if_allowed};
@@ -62,7 +63,7 @@ impl<A: Allocator + Copy> Client<A> {
     ghost use Rattle.spec_desktop.specs.Peer.{Acts, Peer};
     ghost use Rattle.spec_desktop.specs.declared.actions.Action.TheVariants.{CreatePositioner, SetPositioner, DestroyPositioner};
 
-    /// A new positioner, for which nothing is set.
+    /// Makes a positioner, for which nothing is set.
     pub fn create_positioner(&mut self, id: u32, version: u32)
         ensures acts { (p : Peer) → IsPeer self.old p → (q : Peer) × Acts (CreatePositioner id version) p q × IsPeer self.new q }
         ensures table { self.new.ended ≡ None → HoldsAt self.old.objects self.new.objects id (Some (entry_at_version XdgPositioner version)) }
@@ -74,7 +75,7 @@ impl<A: Allocator + Copy> Client<A> {
         }
     }
 
-    /// This is set of a positioner.
+    /// Sets this of a positioner.
     pub(crate) fn set_positioner(&mut self, id: u32, setting: &Setting)
         ensures acts { (p : Peer) → IsPeer self.old p → (q : Peer) × Acts (SetPositioner id setting.now) p q × IsPeer self.new q }
         ensures table { self.new.ended ≡ None → self.new.objects ≡ self.old.objects }
@@ -86,7 +87,7 @@ impl<A: Allocator + Copy> Client<A> {
         positioner.apply(setting);
     }
 
-    /// A positioner goes.
+    /// Removes a positioner.
     pub(crate) fn destroy_positioner(&mut self, id: u32)
         ensures acts { (p : Peer) → IsPeer self.old p → (q : Peer) × Acts (DestroyPositioner id) p q × IsPeer self.new q }
         ensures table { self.new.ended ≡ None → HoldsAt self.old.objects self.new.objects id None }

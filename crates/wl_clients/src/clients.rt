@@ -41,9 +41,11 @@ use wl_requests::{PointerAsked, Resident};
 /// How many clients there may be at once.
 pub const MAX_CLIENTS: usize = 32;
 
-/// All clients with what each owns, the mapped toplevels with their windows, and which points of the output are to be painted again.
-/// It is seen as the output, what is kept of each client and of what it owns, by number from 1, and the pile of toplevels and windows; and that
-/// damage.
+/// All clients with what each owns, the mapped toplevels with their windows, and which points of
+/// the output are to be painted again.
+///
+/// Contracts see the output, what is kept of each client and of what it owns, by number from 1, the
+/// pile of toplevels and windows, and that damage.
 #[derive(Drop)]
 pub struct Clients<A: Allocator> {
     output: Output,
@@ -84,7 +86,7 @@ impl<A: Allocator + Copy> Clients<A> {
         }
     }
 
-    /// The same, where the sides are such.
+    /// The same, for sides that are checked.
     fn of_side(alloc: A, output: Output) -> Result<Self, AllocError>
         requires wide { output.width ≤ 4096 }
         requires high { output.height ≤ 4096 }
@@ -131,8 +133,8 @@ impl<A: Allocator + Copy> Clients<A> {
         Ok(k as u32 + 1)
     }
 
-    /// A piece of a client's stream comes. It is kept behind what came before, and no message is taken. Nothing is kept for a client that
-    /// ended. An `Err` changes nothing, and is for a client that lives.
+    /// Keeps a piece of a client's stream behind what came before. No message is taken. Nothing is
+    /// kept for a client that ended. An `Err` changes nothing, and is for a living client.
     pub fn keep(&mut self, client: ClientNo, piece: &[u8]) -> Result<(), AllocError>
         ensures ok { OnOk result ((d : Desktop) → Agrees self.old.desk d → Agrees self.new.desk (kept_at client piece.now d)) }
         ensures err { OnErr result ((d : Desktop) → Agrees self.old.desk d → Agrees self.new.desk d × (status_of (peer_at client d) ≡ Fed.Alive)) }
@@ -145,10 +147,13 @@ impl<A: Allocator + Copy> Clients<A> {
         keep_in(resident, piece)
     }
 
-    /// Takes the first whole message of what came from a client that lives. None where there is none; then nothing is changed. What the message
-    /// changes is marked, and the windows of a client that ends by it. Where there is no seat for a
-    /// new wl_pointer, a client that asks for one ends as out of memory. The serials are those that a client which asks for a grab was told.
-    /// Unless it is answered that the message touches windows, all windows stay as they are where its client lives on.
+    /// Takes the first whole message of a living client. `None` if there is none; then nothing
+    /// changes. What the message changes is marked; if the client ends by it, its windows are. If
+    /// the answer doesn't say that it touches windows, and the client lives on, all windows stay as
+    /// they are.
+    ///
+    /// Without a seat for a new wl_pointer, a client that asks for one ends as out of memory.
+    /// `latest` has the serials that the client was told, by which a grab is allowed.
     pub fn take(&mut self, client: ClientNo, has_seat: bool, latest: Latest) -> Option<Taken>
         ensures leads { IfSome result (λ taken. (d : Desktop) → Agrees self.old.desk d → IsLatest latest (client_at client d)
             → Led (Agrees self.new.desk) (Message client) self.old.damage self.new.damage d) }
@@ -175,7 +180,7 @@ impl<A: Allocator + Copy> Clients<A> {
             .serve(resident, client, asked, has_seat, grabbing)
     }
 
-    /// Memory runs out for a client that lives, and it ends by that. No more than its own windows is marked.
+    /// Memory runs out for a living client, and it ends. Only its own windows are marked.
     pub fn starve(&mut self, client: ClientNo)
         ensures leads { (d : Desktop) → Agrees self.old.desk d → status_of (peer_at client d) ≡ Fed.Alive
             → Led (Agrees self.new.desk) (Starve client) self.old.damage self.new.damage d }
@@ -185,7 +190,7 @@ impl<A: Allocator + Copy> Clients<A> {
         self.end(client, Cause::Memory);
     }
 
-    /// A client ends by this, where it lives. It is told nothing. No more than its own windows is marked.
+    /// Ends a client for this cause, if it lives. It isn't told. Only its own windows are marked.
     fn end(&mut self, client: ClientNo, cause: Cause)
         ensures ends { (d : Desktop) → Agrees self.old.desk d → (e : Desktop) × Ends client cause d e × Agrees self.new.desk e }
         ensures marks { (d e : Desktop) → Agrees self.old.desk d → Ends client cause d e → MarksAtLeast d e self.old.damage self.new.damage }
@@ -202,9 +207,10 @@ impl<A: Allocator + Copy> Clients<A> {
         self.screen.end(resident, client, cause, alloc);
     }
 
-    /// A frame was shown at this time, in milliseconds: the clients in rising number are told that their frame callbacks that are due are done
-    /// (wayland.xml, wl_surface.frame). One to which an event isn't queued ends, and its windows are marked. Where none ends, nothing more is to
-    /// be painted.
+    /// A frame was shown at this time, in milliseconds. Tells the clients, in rising number, that
+    /// their due frame callbacks are done (wayland.xml, wl_surface.frame). If an event isn't
+    /// queued, its client ends, and its windows are marked. If none ends, nothing more is to be
+    /// painted.
     pub fn frames(&mut self, time: u32)
         ensures shows { (d : Desktop) → Agrees self.old.desk d → (e : Desktop) × Happens (Tick time) Done.Tick d e × Agrees self.new.desk e
             × MarksAtLeast d e self.old.damage self.new.damage × MarksMost d e self.old.damage self.new.damage
@@ -218,7 +224,7 @@ impl<A: Allocator + Copy> Clients<A> {
         }
     }
 
-    /// A client is told of a frame.
+    /// Tells a client of a frame.
     fn tell_frames(&mut self, client: ClientNo, time: u32)
         ensures tells { (d : Desktop) → Agrees self.old.desk d → (e : Desktop) × WasTold time client self.old self.new d e }
         ensures sides { IsAsLarge self.old.damage self.new.damage }
@@ -267,7 +273,8 @@ impl<A: Allocator + Copy> Clients<A> {
         resident.client.next_store(number)
     }
 
-    /// A client goes. True where it was alive. No more than its own windows is marked.
+    /// A client closed its connection. The answer is true if it was alive. Only its own windows are
+    /// marked.
     pub fn gone(&mut self, client: ClientNo) -> bool
         ensures step { TakesStep (Leave client) (Done.Gone result) self.old.desk self.new.desk }
         ensures marks { MarksStep (Leave client) (Done.Gone result) self.old self.new }
@@ -286,7 +293,8 @@ impl<A: Allocator + Copy> Clients<A> {
         self.screen.gone(resident, client, alloc)
     }
 
-    /// So many of a client's unsent bytes were sent. False and unchanged where there are fewer.
+    /// Drops this many of a client's unsent bytes, which were sent. If there are fewer, the answer
+    /// is false and nothing changes.
     pub fn sent(&mut self, client: ClientNo, count: usize) -> bool
         ensures step { TakesStep (Send client count) (Done.Sent result) self.old.desk self.new.desk }
         ensures marks { MarksStep (Send client count) (Done.Sent result) self.old self.new }
@@ -301,7 +309,7 @@ impl<A: Allocator + Copy> Clients<A> {
         crate::screen::sent(resident, count)
     }
 
-    /// Frees the number of a client that ended. True where it had.
+    /// Frees the number of a client that ended. The answer is true if it had.
     pub fn close(&mut self, client: ClientNo) -> bool
         ensures step { TakesStep (Close client) (Done.Close result) self.old.desk self.new.desk }
         ensures marks { MarksStep (Close client) (Done.Close result) self.old self.new }
@@ -342,7 +350,7 @@ impl<A: Allocator + Copy> Clients<A> {
         Some(resident.client.unsent())
     }
 
-    /// How a client is.
+    /// How a client fares.
     pub fn status(&self, client: ClientNo) -> Fed
         ensures { (d : Desktop) → Agrees self.now.desk d → result ≡ status_of (peer_at client d) }
     {
@@ -361,7 +369,8 @@ impl<A: Allocator + Copy> Clients<A> {
         &self.screen.damage
     }
 
-    /// Hands over which points of the output are to be painted again, and begins with none. What is handed in has the output's sides.
+    /// Hands over which points of the output are to be painted again, and begins with none.
+    /// `painted` has the output's sides.
     pub fn take_damage(&mut self, painted: &mut Damage<A>)
         requires wide { painted.old.width ≡ self.old.desk.output.width }
         requires high { painted.old.height ≡ self.old.desk.output.height }
@@ -376,11 +385,12 @@ impl<A: Allocator + Copy> Clients<A> {
         std::mem::swap(painted, &mut self.screen.damage);
     }
 
-    /// Paints what is to be painted again: each of those points from nothing, the background and over it the windows from bottom to top. The
-    /// other points stay. It takes no memory.
+    /// Paints each point that is to be painted again, from nothing: the background, and over it the
+    /// windows from bottom to top. The other points stay. It takes no memory.
     ///
-    /// The image has the output's sides. Where a window isn't opaque at a point that its opaque region holds, it is free what such a point gets
-    /// (wayland.xml, wl_surface.set_opaque_region).
+    /// The image has the output's sides. A painted point may get any colour if a window isn't
+    /// opaque there although its opaque region holds the point (wayland.xml,
+    /// wl_surface.set_opaque_region).
     pub fn paint(&self, framebuffer: &mut Framebuffer<A>)
         requires wide { framebuffer.old.width ≡ self.now.desk.output.width }
         requires high { framebuffer.old.height ≡ self.now.desk.output.height }
@@ -402,7 +412,7 @@ impl<A: Allocator + Copy> Clients<A> {
     }
 }
 
-/// A piece is kept of a client that lives.
+/// Keeps a piece for a living client.
 fn keep_in<A: Allocator + Copy>(resident: &mut Resident<A>, piece: &[u8]) -> Result<(), AllocError>
     ensures ok { OnOk result (resident.new ≡ record resident.old { client = kept_while piece.now resident.old.client.ended resident.old.client }) }
     ensures err { OnErr result ((resident.new ≡ resident.old) × (resident.old.client.ended ≡ None)) }
@@ -413,7 +423,7 @@ fn keep_in<A: Allocator + Copy>(resident: &mut Resident<A>, piece: &[u8]) -> Res
     resident.client.keep(piece)
 }
 
-/// The client of this number, with what it owns, lent to be changed: client c lies at index c - 1.
+/// The client of this number, with what it owns, lent to be changed: client c is at index c - 1.
 pub(crate) fn resident_mut<A: Allocator>(
     residents: &mut Vec<Option<Resident<A>>, A>,
     client: ClientNo,
@@ -430,7 +440,7 @@ pub(crate) fn resident_mut<A: Allocator>(
     slot.as_mut()
 }
 
-/// Where the client of this number stands, if it is the number of a place.
+/// Where the client of this number stands, if the number has a place.
 fn place_of<A: Allocator>(residents: &[Option<Resident<A>>], client: ClientNo) -> Option<usize>
     ensures some { IfSome result (λ k. (client ≡ k + 1) × (k < length residents.now)) }
     ensures none { IfNone result (resident_at residents.now client ≡ None) }

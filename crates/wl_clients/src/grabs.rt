@@ -1,4 +1,5 @@
-//! Grabs of popups: which client holds one, what one is allowed by, and how they end (xdg-shell.xml, xdg_popup.grab).
+//! Grabs of popups: which client holds one, by what one is allowed, and how they end
+//! (xdg-shell.xml, xdg_popup.grab).
 
 ghost use Rattle.std.specs.Prelude.{ℕ, ◌≡◌, ◌<◌, ◌≤◌, IfNone, IfSome, Some, length};
 ghost use Rattle.wl_scene.specs.Marking.{IsAsLarge};
@@ -24,7 +25,8 @@ use std::alloc::Allocator;
 use wl_proto::XdgPopupRequest;
 use wl_requests::{Asked, Grabbing, Kind, Resident};
 
-/// The serials of the latest press and of the latest release of a button that a client was told of (wayland.xml, wl_pointer.button).
+/// The serials of the latest press and the latest release of a button that a client was told of
+/// (wayland.xml, wl_pointer.button).
 #[derive(Clone, Copy, Debug, PartialEq, Eq)]
 pub struct Latest {
     pub press: Option<u32>,
@@ -70,7 +72,7 @@ fn is_grab(asked: &Asked) -> bool
 }
 
 impl<A: Allocator + Copy> Clients<A> {
-    /// The client that holds a grab, if one does: one of its popups has one.
+    /// The client that holds a grab, if one does: one of its popups has it.
     pub fn grab_holder(&self) -> Option<ClientNo>
         ensures { (m : Midstep) → IsMid self.now.desk m → result ≡ grab_holder m.desktop }
     {
@@ -80,7 +82,7 @@ impl<A: Allocator + Copy> Clients<A> {
         Some(k as u32 + 1)
     }
 
-    /// Whether another client than this one holds a grab.
+    /// Whether a client other than this one holds a grab.
     fn is_held_elsewhere(&self, client: ClientNo) -> bool
         ensures { (m : Midstep) → IsMid self.now.desk m → result ≡ is_held_elsewhere client (grab_holder m.desktop) }
     {
@@ -90,8 +92,8 @@ impl<A: Allocator + Copy> Clients<A> {
         }
     }
 
-    /// What a grab is allowed by that this asks for, of which this client was told these serials. Whether another client holds one is looked
-    /// for where one is asked for.
+    /// By what the grab is allowed that this message asks for. `latest` has the serials that this
+    /// client was told. Other clients are searched only if a grab is asked for.
     pub(crate) fn grabbing(&self, client: ClientNo, asked: &Asked, latest: Latest) -> Grabbing
         ensures { (d : Desktop) (r : Plain) → Agrees self.now.desk d → IsLatest latest (Some r) → IsGrabbingOf result asked.now client r d }
     {
@@ -103,9 +105,10 @@ impl<A: Allocator + Copy> Clients<A> {
         }
     }
 
-    /// The popups of a client with a grab are dismissed, with those that descend from them, unless the client ended, is to end or isn't there.
-    /// It is told of each that it is done, the newest first; where an event isn't queued, the client is to end for that (see
-    /// [`Clients::end_refused`]). Their windows go, and are marked, and nothing else is.
+    /// Dismisses a client's popups with a grab, and their descendants, unless the client ended, is
+    /// to end or isn't there. The client is told of each that it is done, the newest first. If an
+    /// event isn't queued, the client is to end for that (see [`Clients::end_refused`]). Only the
+    /// windows of these popups go and are marked.
     pub fn release_grabs(&mut self, client: ClientNo)
         ensures releases { (m : Midstep) → IsMid self.old.desk m
             → (n : Midstep) × Tells without_grabs (λ r. popups_done r (without_grabs r)) client m n × IsMid self.new.desk n
@@ -122,7 +125,8 @@ impl<A: Allocator + Copy> Clients<A> {
     }
 }
 
-/// The popups with a grab of a client are dismissed, where it lives and isn't to end, and their windows go and are marked.
+/// Dismisses a client's popups with a grab, if it lives and isn't to end. Their windows go and are
+/// marked.
 fn release_of<A: Allocator + Copy>(
     screen: &mut Screen<A>,
     resident: &mut Resident<A>,

@@ -1,5 +1,8 @@
-//! All clients by number, and the screen that they change: each message is served, the toplevels and the windows stacked with them follow, what
-//! changed is marked to be painted again, and the windows are lent to be painted. The pointer is none of theirs.
+//! All clients by number, and the screen that they change. Begin with [`Clients::take`], which
+//! serves a message, then [`Screen`]. The pointer and its focus are left to wl_desk.
+//!
+//! After each message the toplevels and the windows stacked with them follow, and what changed is
+//! marked to be painted again. At a frame the windows are lent to be painted.
 #![tactic(auto)]
 
 mod clients;

@@ -1,4 +1,4 @@
-//! A toplevel of a client comes to the top, or goes along with the pointer.
+//! A client's toplevel comes to the top, or moves with the pointer.
 
 ghost use Rattle.std.specs.Prelude.{ℕ, ◌≡◌, if◌then◌else◌, None, Some};
 ghost use Rattle.spec_desktop.specs.Stacking.{raised};
@@ -19,8 +19,9 @@ use std::alloc::Allocator;
 use wl_surface::SurfaceNo;
 
 impl<A: Allocator + Copy> Clients<A> {
-    /// A press raises a toplevel of a client, given by the number of its surface: it comes to the top of the others with its windows, those of
-    /// its popups too. These are marked where it wasn't topmost, and nothing is where it was.
+    /// A press raises a client's toplevel, given by the number of its surface. It comes to the top
+    /// with its windows, those of its popups too. If it wasn't topmost, these are marked; else
+    /// nothing is.
     pub fn raise(&mut self, client: ClientNo, toplevel: SurfaceNo)
         ensures raises { (m : Midstep) (top : ℕ) → IsMid self.old.desk m → numbers_in self.old.desk.clients client top ≡ Some toplevel
             → IsMid self.new.desk (with_standing (raised client top m.desktop.standing) m) }
@@ -36,8 +37,9 @@ impl<A: Allocator + Copy> Clients<A> {
         self.screen.raise_tree(client, toplevel);
     }
 
-    /// A toplevel of a client, given by the number of its surface, moves by this difference of the output's pixels with its windows, those of
-    /// its popups too, and is held within 16,777,216 either way. Where these move, they are marked as they were and as they are then.
+    /// Moves a client's toplevel, given by the number of its surface, by this difference in the
+    /// output's pixels. Its windows move too, those of its popups as well. The place is held within
+    /// 16,777,216 either way. Windows that move are marked, as they were and as they are.
     pub fn move_toplevel(&mut self, client: ClientNo, toplevel: SurfaceNo, x: i64, y: i64)
         ensures moves { (m : Midstep) (top : ℕ) → IsMid self.old.desk m → numbers_in self.old.desk.clients client top ≡ Some toplevel
             → IsMid self.new.desk (with_standing (moved_standing (record { client = client; surface = top }) x y m.desktop.standing) m) }

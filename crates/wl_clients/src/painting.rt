@@ -1,13 +1,14 @@
-//! What the windows that are lent are painted as.
+//! The lent windows are painted as the desktop's.
 
 ghost use Rattle.wl_clients.specs.Painting.{LendsOpaqueAsSaid, PaintsTheDesktop};
 
-/// Painted from nothing, what is lent of the windows of the output gives each point the colour that the desktop does.
+/// The lent windows, painted from nothing, give each point the colour that the desktop gives it.
 pub fn paints_the_desktop()
     ensures { PaintsTheDesktop }
 {}
 
-/// What is said opaque of the desktop's windows and is, is so of those that are lent (wayland.xml, wl_surface.set_opaque_region).
+/// If a window of the desktop is opaque where it says so, so is the lent one (wayland.xml,
+/// wl_surface.set_opaque_region).
 pub fn lends_opaque_as_said()
     ensures { LendsOpaqueAsSaid }
 {}

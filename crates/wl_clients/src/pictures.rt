@@ -34,7 +34,8 @@ fn picture_of<'a, A: Allocator + Copy>(
     }
 }
 
-/// A window at whose corner there is nothing to see: one transparent pixel, of which nothing is said to be opaque.
+/// A window with nothing to see: one transparent pixel at its corner, and nothing said to be
+/// opaque.
 fn unseen<'a, A: Allocator>(window: &TreeWindow, nowhere: &'a Region<A>) -> Painted<'a, A>
     ensures { window_of result ≡ window_showing nowhere.now window.now nowhere.now None }
 {
@@ -46,10 +47,12 @@ fn unseen<'a, A: Allocator>(window: &TreeWindow, nowhere: &'a Region<A>) -> Pain
     }
 }
 
-/// The window that is lent of one of the output, by its client and the client's surfaces: its surface's buffer as a picture, turned and
-/// scaled, with its applied opaque region, at the window's corner (wayland.xml, wl_surface.attach, set_buffer_transform, set_buffer_scale and
-/// set_opaque_region). It is one transparent pixel there, with the region `nowhere`, where the client or the surface isn't there, or its buffer
-/// can't be shown.
+/// Lends a window of the output, by its client and the client's surfaces, at its corner. It is the
+/// picture of its surface's buffer, turned and scaled, with its applied opaque region (wayland.xml,
+/// wl_surface.attach, set_buffer_transform, set_buffer_scale and set_opaque_region).
+///
+/// If the client or the surface isn't there, or the buffer can't be shown, it is one transparent
+/// pixel, with the region `nowhere`.
 pub fn lend<'a, A: Allocator + Copy>(
     stacked: &Stacked,
     client: Option<&'a Client<A>>,

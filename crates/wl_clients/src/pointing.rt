@@ -1,5 +1,5 @@
-//! What the pointer asks of the clients: what a point hits, the windows of a surface, and what the clients are told; and the ends of those that
-//! can't be told.
+//! What the pointer asks of the clients: what a point hits, the windows of a surface, and what the
+//! clients are told. Clients that can't be told end here.
 
 ghost use Rattle.std.specs.Prelude.{ℕ, ◌≡◌, ◌∷◌, IfNone, IfSome, List, None, Some, ◌≢◌, ◌<◌, ◌≤◌, find, is_some, length, position, true};
 ghost use Rattle.std.specs.List.{list_any};
@@ -85,8 +85,8 @@ fn first_in<A: Allocator + Copy>(residents: &[Option<Resident<A>>]) -> Option<us
 }
 
 impl<A: Allocator + Copy> Clients<A> {
-    /// The window that a point of the output, in pixels, hits: the topmost that takes the input there (wayland.xml,
-    /// wl_surface.set_input_region).
+    /// The window that a point hits, in pixels of the output: the topmost that takes the input
+    /// there (wayland.xml, wl_surface.set_input_region).
     pub fn hit(&self, x: i32, y: i32) -> Option<Stacked>
         ensures { (m : Midstep) → IsMid self.now.desk m → IsStackedOrNone (numbers_in self.now.desk.clients) result (hit_of x y (all_windows m.desktop)) }
     {
@@ -107,7 +107,7 @@ impl<A: Allocator + Copy> Clients<A> {
         window_in(self.screen.stacked.windows(), client, surface)
     }
 
-    /// Whether a toplevel of a client, by the number of its surface, is mapped and stands.
+    /// Whether a client's toplevel, given by the number of its surface, is mapped and stands.
     pub fn stands(&self, client: ClientNo, toplevel: SurfaceNo) -> bool
         ensures { (m : Midstep) (top : ℕ) → IsMid self.now.desk m → numbers_in self.now.desk.clients client top ≡ Some toplevel
             → result ≡ list_any (is_of client top) m.desktop.standing }
@@ -136,7 +136,7 @@ impl<A: Allocator + Copy> Clients<A> {
         resident.client.find(Interface::WlSurface, surface)
     }
 
-    /// The serial that the next event of a client with one has. It isn't drawn by that.
+    /// The serial of a client's next event that has one. It isn't drawn by asking.
     pub fn serial(&self, client: ClientNo) -> Option<u32>
         ensures { (m : Midstep) → IsMid self.now.desk m → result ≡ option_map (λ r. r.peer.serial) (client_at client m.desktop) }
     {
@@ -146,8 +146,9 @@ impl<A: Allocator + Copy> Clients<A> {
         Some(resident.client.serial())
     }
 
-    /// These wl_pointers of a client are told an event in this order, with one serial if it has one, unless the client ended, is to end or isn't
-    /// there. Where an event isn't queued, the client is to end for that, and is told nothing more (see [`Clients::end_refused`]).
+    /// Tells these wl_pointers of a client an event, in this order, with one serial if it has one.
+    /// A client that ended, is to end or isn't there is told nothing. If an event isn't queued, the
+    /// client is to end for that, and is told nothing more (see [`Clients::end_refused`]).
     pub fn tell(&mut self, client: ClientNo, pointers: &[u32], event: PointerEvent)
         ensures tells { (change : Plain → Plain) (events : Plain → List Said) (m : Midstep) → IsMid self.old.desk m
             → IsToldAt event pointers.now change events (client_at client m.desktop)
@@ -164,7 +165,8 @@ impl<A: Allocator + Copy> Clients<A> {
         tell_to(resident, pointers, event);
     }
 
-    /// The least number of a client that is to end since an event for it wasn't queued. There are 32 numbers.
+    /// The least number of a client that is to end, since an event for it wasn't queued. There are
+    /// 32 numbers.
     pub fn first_refused(&self) -> Option<ClientNo>
         ensures first { (m : Midstep) → IsMid self.now.desk m → result ≡ first_struck m.struck }
         ensures count { length self.now.desk.clients ≡ 32 }
@@ -175,8 +177,8 @@ impl<A: Allocator + Copy> Clients<A> {
         Some(k as u32 + 1)
     }
 
-    /// The client that is to end first does, for the cause for which an event wasn't queued. It is told nothing. Its own windows are marked, and
-    /// no more.
+    /// Ends the client that is to end first, for the cause for which an event wasn't queued. It
+    /// isn't told. Only its own windows are marked.
     pub fn end_refused(&mut self, client: ClientNo)
         ensures ends { (s : Strike) (ss : List Strike) (d : Desktop) → s.client ≡ client → IsMid self.old.desk (record { desktop = d; struck = s ∷ ss })
             → IsMid self.new.desk (record { desktop = ended_by s d; struck = ss }) }
@@ -196,7 +198,8 @@ impl<A: Allocator + Copy> Clients<A> {
     }
 }
 
-/// A client ends for the cause for which an event wasn't queued, if there is one. Its windows are marked then, and no more.
+/// Ends a client for the cause for which an event wasn't queued, if there is one. Only its own
+/// windows are marked then.
 fn end_for_refusal<A: Allocator + Copy>(
     screen: &mut Screen<A>,
     resident: &mut Resident<A>,
@@ -217,7 +220,7 @@ fn end_for_refusal<A: Allocator + Copy>(
     screen.end(resident, client, cause, alloc);
 }
 
-/// A client that lives and isn't to end is told.
+/// Tells a living client that isn't to end.
 fn tell_to<A: Allocator + Copy>(resident: &mut Resident<A>, pointers: &[u32], event: PointerEvent)
     ensures told { IsToldBy event pointers.now resident.old.client.ended resident.old.client.refused resident.old.client resident.new.client }
     ensures table { resident.new.client.objects ≡ resident.old.client.objects }
@@ -253,17 +256,17 @@ fn is_refused<A: Allocator + Copy>(slot: &Option<Resident<A>>) -> bool
     }
 }
 
-/// A step begins with nobody to end, and ends so.
+/// A step begins and ends with nobody who is to end.
 pub fn mid_begins_and_ends()
     ensures { MidBeginsAndEnds }
 {}
 
-/// In the middle of a step too a client's surface has a number as long as it is there.
+/// In the middle of a step too, a client's surface has a number while it is there.
 pub fn mid_names_surfaces()
     ensures { MidNamesSurfaces }
 {}
 
-/// In the middle of a step too no number is that of two surfaces of a client.
+/// In the middle of a step too, no two surfaces of a client have the same number.
 pub fn mid_is_numbered_once()
     ensures { MidIsNumberedOnce }
 {}

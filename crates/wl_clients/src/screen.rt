@@ -1,5 +1,5 @@
-//! One client at the desk: its messages served, its toplevels and their windows on the stack, and what of the output is marked to be painted
-//! again.
+//! One client at the desk: its messages served, its toplevels and their windows on the stack, and
+//! what of the output is marked to be painted again.
 
 mod feeding;
 mod frames;

@@ -10,8 +10,9 @@ use crate::clients::Clients;
 use spec_desktop::ClientNo;
 use std::alloc::Allocator;
 
-/// A window of the output as a viewer is told of it: the number of its client, the id of its wl_surface, where its upper left corner is on the
-/// output in pixels, and its width and height in surface coordinates (wayland.xml, wl_surface).
+/// A window of the output, as a viewer is told of it: the number of its client, and the id of its
+/// wl_surface. Its upper left corner is in pixels of the output, its width and height in surface
+/// coordinates (wayland.xml, wl_surface).
 #[derive(Clone, Copy, Debug, PartialEq, Eq)]
 pub struct ShownWindow {
     pub client: ClientNo,
@@ -31,7 +32,8 @@ impl<A: Allocator + Copy> Clients<A> {
         self.screen.stacked.len()
     }
 
-    /// The window at place `k` of the stacking order, counted from 0 at the bottom. That there are more than `k` is the caller's condition.
+    /// The window at place `k` of the stacking order, counted from 0 at the bottom. The caller
+    /// makes sure that there are more than `k`.
     pub fn shown(&self, k: usize) -> ShownWindow
         requires { k < windows_kept self.now.desk }
         ensures { (d : Desktop) → Agrees self.now.desk d → slice_get (shown_windows d) k ≡ Some result }

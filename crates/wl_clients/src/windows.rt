@@ -15,7 +15,8 @@ use wl_requests::Resident;
 use wl_scene::{Stacked, Surfaced};
 use wl_surface::SurfaceStates;
 
-/// The windows of the output with the clients and what each owns, that of client c at index c - 1, and a region without a point.
+/// The windows of the output, the clients with what each owns (client c at index c - 1), and a
+/// region without a point.
 #[derive(Drop)]
 pub(crate) struct Lent<'a, A: Allocator> {
     pub(crate) stacked: &'a [Stacked],
@@ -23,7 +24,7 @@ pub(crate) struct Lent<'a, A: Allocator> {
     pub(crate) nowhere: &'a Region<A>,
 }
 
-/// The client of this number, with what it owns: client c lies at index c - 1.
+/// The client of this number, with what it owns: client c is at index c - 1.
 pub(crate) fn resident_of<A: Allocator>(
     residents: &[Option<Resident<A>>],
     client: ClientNo,
@@ -57,7 +58,7 @@ fn lend_of<'a, A: Allocator + Copy>(
     }
 }
 
-/// The clients with what each owns, whose surfaces take input: that of client c at index c - 1.
+/// The clients with what each owns, whose surfaces take input: client c is at index c - 1.
 #[derive(Drop)]
 pub(crate) struct Owners<'a, A: Allocator> {
     pub(crate) residents: &'a [Option<Resident<A>>],

@@ -38,9 +38,12 @@ use wl_clients::{
 use wl_paint::{Damage, FrameError, Framebuffer, is_side};
 use wl_scene::{Focus, Target};
 
-/// All clients with the windows that they show, the wl_pointers of each, the serials of its latest press and release, and the pointer. It is
-/// seen as what is kept of the clients, the wl_pointers and the serials of each client by number from 1, and the pointer; and which points of
-/// the output are to be painted again.
+/// All clients with the windows that they show, the wl_pointers of each, the serials of its latest
+/// press and release, and the pointer. Contracts see these values:
+/// - what is kept of the clients;
+/// - the wl_pointers and the serials of each client, by number from 1;
+/// - the pointer;
+/// - which points of the output are to be painted again.
 #[derive(Drop)]
 pub struct Desk<A: Allocator> {
     pub(crate) clients: Clients<A>,
@@ -64,8 +67,8 @@ impl<A: Allocator> Model for Desk<A> {
 }
 
 impl<A: Allocator + Copy> Desk<A> {
-    /// A desk without clients, with an output of these sides. Nothing is to be painted, and the pointer isn't anywhere. `BadSize` where a side
-    /// isn't 1 to 4,096 pixels.
+    /// A desk without clients, with an output of these sides. Nothing is to be painted, and the
+    /// pointer has no place. `BadSize` if a side isn't 1 to 4,096 pixels.
     pub fn new(alloc: A, config: Config) -> Result<Self, FrameError>
         ensures desk { IfOk result (λ v. Agrees v.desk (empty (record { width = config.width; height = config.height }))) }
         ensures output { IfOk result (λ v. (v.desk.kept.output.width ≡ config.width) × (v.desk.kept.output.height ≡ config.height)) }
@@ -109,7 +112,7 @@ impl<A: Allocator + Copy> Desk<A> {
         Ok(client)
     }
 
-    /// A client has no wl_pointers.
+    /// Forgets the wl_pointers of a client.
     fn clear_seat(&mut self, client: ClientNo)
         ensures cleared { seat_of self.new.desk.seats client ≡ [] }
         ensures others { (c : ℕ) → c ≢ client → seat_of self.new.desk.seats c ≡ seat_of self.old.desk.seats c }
@@ -124,7 +127,7 @@ impl<A: Allocator + Copy> Desk<A> {
         self.seats[k].clear();
     }
 
-    /// A client was told of no button.
+    /// Forgets which buttons a client was told of.
     fn clear_serials(&mut self, client: ClientNo)
         ensures none { latest_of self.new.desk.latest client ≡ no_latest }
         ensures others { (c : ℕ) → c ≢ client → latest_of self.new.desk.latest c ≡ latest_of self.old.desk.latest c }
@@ -136,8 +139,8 @@ impl<A: Allocator + Copy> Desk<A> {
         forget(&mut self.latest, client);
     }
 
-    /// A piece of a client's stream comes. It is kept behind what came before, and no message is taken. Nothing is kept for a client that
-    /// ended. An `Err` changes nothing, and is for a client that lives.
+    /// Keeps a piece of a client's stream behind what came before. No message is taken. Nothing is
+    /// kept for a client that ended. An `Err` changes nothing, and is for a living client.
     pub fn keep(&mut self, client: ClientNo, piece: &[u8]) -> Result<(), AllocError>
         ensures ok { OnOk result ((d : Desktop) → Agrees self.old.desk d → Agrees self.new.desk (kept_at client piece.now d)) }
         ensures err { OnErr result ((d : Desktop) → Agrees self.old.desk d → Agrees self.new.desk d × (status_of (peer_at client d) ≡ Fed.Alive)) }
@@ -147,10 +150,12 @@ impl<A: Allocator + Copy> Desk<A> {
         self.clients.keep(client, piece)
     }
 
-    /// Takes the first whole message of what came from a client that lives. `More` where there is none; then nothing is changed. What the message
-    /// changes is marked, and the windows of its client if that ends by it. The focus of the pointer is settled once by that; where the message
-    /// touches no windows and its client lives on, it is settled still, and nothing is done for it. Who can't be told of it is to end (see
-    /// [`Desk::struck`]).
+    /// Takes the first whole message of a living client. `More` if there is none; then nothing
+    /// changes. What the message changes is marked; if the client ends by it, its windows are.
+    ///
+    /// The pointer's focus is settled once. If the message touches no windows and its client lives
+    /// on, it is settled already, and nothing is done for it. A client that can't be told of it is
+    /// to end (see [`Desk::struck`]).
     pub fn serve(&mut self, client: ClientNo) -> Served
         ensures leads { result ≢ Served.More → LeadsOnceEnded (Message client) self.old self.new }
         ensures told { result ≢ Served.More → (d : Desktop) → Agrees self.new.desk d → result ≡ served_of (status_of (peer_at client d)) }
@@ -169,8 +174,8 @@ impl<A: Allocator + Copy> Desk<A> {
         served_of(self.clients.status(client))
     }
 
-    /// Takes the first whole message of what came from a client that lives; a wl_pointer that it asks for is kept. None where there is none. The
-    /// pointer stays as it is.
+    /// Takes the first whole message of a living client, and keeps a wl_pointer that it asks for.
+    /// `None` if there is none. The pointer stays as it is.
     fn take(&mut self, client: ClientNo) -> Option<Taken>
         ensures took { IfSome result (λ taken. (d : Desktop) → Agrees self.old.desk d → Took client taken.pointer self.old self.new d) }
         ensures untouched { IfSome result (λ taken. taken.touches_windows ≡ false → (d : Desktop) → Agrees self.old.desk d → ChangesNoWindow client (unpointed d)) }
@@ -189,7 +194,8 @@ impl<A: Allocator + Copy> Desk<A> {
         Some(taken)
     }
 
-    /// The serials of the latest press and release that a client which lives was told of; of another client there are none.
+    /// The serials of the latest press and release that a living client was told of. Any other
+    /// client has none.
     fn serials(&self, client: ClientNo) -> Latest
         ensures { (d : Desktop) → Agrees self.now.desk d → IsLatest result (client_at client d) }
     {
@@ -199,9 +205,12 @@ impl<A: Allocator + Copy> Desk<A> {
         latest_of(&self.latest, client)
     }
 
-    /// The pointer leaves a client that ended by a message. Where the message asked for a wl_pointer, that one is told of the focus where its
-    /// client has it (wayland.xml, wl_pointer.enter). Where it begins to move a toplevel, motions move that one from now on; and one that
-    /// doesn't stand any more isn't moved any more. True where the client lives on.
+    /// Follows a message. If its client ended, the pointer leaves that. A new wl_pointer is told of
+    /// the focus, if its client has it (wayland.xml, wl_pointer.enter). If it begins to move a
+    /// toplevel, motions move that from now on. A toplevel that doesn't stand any more isn't moved
+    /// any more.
+    ///
+    /// The answer is true if the client lives on.
     fn follow(&mut self, client: ClientNo, request: PointerAsked, toplevel: Option<Target>) -> bool
         ensures follows { (old : MarkedDesk) (d : Desktop) → Took client request old self.old d → IsToMove (asked client d) client d (target_or_none toplevel)
             → IsUnsettled client result old self.new d }
@@ -222,8 +231,8 @@ impl<A: Allocator + Copy> Desk<A> {
         self.tell_new(client, id)
     }
 
-    /// A new wl_pointer of a client that lives is told of the focus, where its client has it. The client ends where that isn't queued; true
-    /// where it lives on.
+    /// Tells a new wl_pointer of a living client of the focus, if its client has it. If that isn't
+    /// queued, the client ends. The answer is true if it lives on.
     fn tell_new(&mut self, client: ClientNo, id: u32) -> bool
         ensures tells { (old : MarkedDesk) (d : Desktop) → (took : Took client (PointerAsked.NewPointer id) old self.old d)
             → status_in client took.desktop ≡ None → IsUnsettled client result old self.new d }
@@ -244,7 +253,8 @@ impl<A: Allocator + Copy> Desk<A> {
         false
     }
 
-    /// Memory runs out for a client that lives, and it ends by that, with its windows marked. The focus of the pointer is to be settled then.
+    /// Memory runs out for a living client, and it ends. Its windows are marked. The pointer's
+    /// focus is to be settled then.
     pub fn starve(&mut self, client: ClientNo)
         ensures leads { (new : MarkedDesk) → SettlesFrom self.new new → (d : Desktop) → Agrees self.old.desk d
             → status_of (peer_at client d) ≡ Fed.Alive → Led (Agrees new.desk) (Starve client) self.old.damage new.damage d }
@@ -255,9 +265,10 @@ impl<A: Allocator + Copy> Desk<A> {
         self.pointer.forget(client);
     }
 
-    /// A frame was shown at this time, in milliseconds: the clients in rising number are told that their frame callbacks that are due are done
-    /// (wayland.xml, wl_surface.frame). One to which an event isn't queued ends, and its windows are marked. Where none ends, nothing more is to
-    /// be painted. The focus of the pointer is to be settled then.
+    /// A frame was shown at this time, in milliseconds. Tells the clients, in rising number, that
+    /// their due frame callbacks are done (wayland.xml, wl_surface.frame). If an event isn't
+    /// queued, its client ends, and its windows are marked. If none ends, nothing more is to be
+    /// painted. The pointer's focus is to be settled then.
     pub fn frames(&mut self, time: u32)
         ensures leads { LeadsQuietlyOnceSettled (Single (Tick time) Done.Tick) self.old self.new }
         ensures sides { IsAsLarge self.old.damage self.new.damage }
@@ -267,7 +278,7 @@ impl<A: Allocator + Copy> Desk<A> {
         self.forget_ended();
     }
 
-    /// The pointer leaves what it has of clients that ended.
+    /// The pointer leaves all clients that ended.
     fn forget_ended(&mut self)
         ensures left { (old : DeskView) (d e : Desktop) → Agrees old d → self.old.desk.pointer ≡ d.pointer → KeptAgrees self.old.desk.kept e
             → self.new.desk.pointer ≡ pointer_left d e }
@@ -282,7 +293,7 @@ impl<A: Allocator + Copy> Desk<A> {
         self.forget_of(moved);
     }
 
-    /// The pointer leaves what it has of the client of this surface, if that ended.
+    /// The pointer leaves the client of this surface, if that ended.
     fn forget_of(&mut self, surface: Option<Target>)
         ensures left { (e : Desktop) → KeptAgrees self.old.desk.kept e → self.new.desk.pointer ≡ left_of (target_or_none surface) e self.old.desk.pointer }
         ensures kept { self.new.desk.kept ≡ self.old.desk.kept }
@@ -324,7 +335,8 @@ impl<A: Allocator + Copy> Desk<A> {
         self.clients.next_store(client, number)
     }
 
-    /// A client goes, with its windows marked. True where it was alive; the focus of the pointer is to be settled then. Else nothing is done.
+    /// A client closed its connection. Its windows are marked. The answer is true if it was alive;
+    /// the pointer's focus is to be settled then. Else nothing is done.
     pub fn gone(&mut self, client: ClientNo) -> bool
         ensures leads { result ≡ true → LeadsOnceSettled (Single (Leave client) (Done.Gone true)) self.old self.new }
         ensures stays { result ≡ false → LeadsBy (Single (Leave client) (Done.Gone false)) self.old self.new }
@@ -338,7 +350,8 @@ impl<A: Allocator + Copy> Desk<A> {
         true
     }
 
-    /// So many of a client's unsent bytes were sent. False and unchanged where there are fewer.
+    /// Drops this many of a client's unsent bytes, which were sent. If there are fewer, the answer
+    /// is false and nothing changes.
     pub fn sent(&mut self, client: ClientNo, count: usize) -> bool
         ensures leads { LeadsBy (Single (Send client count) (Done.Sent result)) self.old self.new }
         ensures sides { IsAsLarge self.old.damage self.new.damage }
@@ -348,7 +361,7 @@ impl<A: Allocator + Copy> Desk<A> {
         self.clients.sent(client, count)
     }
 
-    /// Frees the number of a client that ended. True where it had.
+    /// Frees the number of a client that ended. The answer is true if it had.
     pub fn close(&mut self, client: ClientNo) -> bool
         ensures leads { LeadsBy (Single (Close client) (Done.Close result)) self.old self.new }
         ensures sides { IsAsLarge self.old.damage self.new.damage }
@@ -365,7 +378,7 @@ impl<A: Allocator + Copy> Desk<A> {
         self.clients.out(client)
     }
 
-    /// How a client is.
+    /// How a client fares.
     pub fn status(&self, client: ClientNo) -> Fed
         ensures { (d : Desktop) → Agrees self.now.desk d → result ≡ status_of (peer_at client d) }
     {
@@ -381,7 +394,8 @@ impl<A: Allocator + Copy> Desk<A> {
         self.clients.damage()
     }
 
-    /// Hands over which points of the output are to be painted again, and begins with none. What is handed in has the output's sides.
+    /// Hands over which points of the output are to be painted again, and begins with none.
+    /// `painted` has the output's sides.
     pub fn take_damage(&mut self, painted: &mut Damage<A>)
         requires wide { painted.old.width ≡ self.old.desk.kept.output.width }
         requires high { painted.old.height ≡ self.old.desk.kept.output.height }
@@ -395,11 +409,12 @@ impl<A: Allocator + Copy> Desk<A> {
         self.clients.take_damage(painted);
     }
 
-    /// Paints what is to be painted again: each of those points from nothing, the background and over it the windows from bottom to top. The
-    /// other points stay. It takes no memory.
+    /// Paints each point that is to be painted again, from nothing: the background, and over it the
+    /// windows from bottom to top. The other points stay. It takes no memory.
     ///
-    /// The image has the output's sides. Where a window isn't opaque at a point that its opaque region holds, it is free what such a point gets
-    /// (wayland.xml, wl_surface.set_opaque_region).
+    /// The image has the output's sides. A painted point may get any colour if a window isn't
+    /// opaque there although its opaque region holds the point (wayland.xml,
+    /// wl_surface.set_opaque_region).
     pub fn paint(&self, framebuffer: &mut Framebuffer<A>)
         requires wide { framebuffer.old.width ≡ self.now.desk.kept.output.width }
         requires high { framebuffer.old.height ≡ self.now.desk.kept.output.height }
@@ -414,7 +429,7 @@ impl<A: Allocator + Copy> Desk<A> {
         self.clients.paint(framebuffer);
     }
 
-    /// Where what is kept of the client of this number stands, if it is the number of a place.
+    /// Where the values of the client of this number are, if the number has a place.
     pub(crate) fn place_of(&self, client: ClientNo) -> Option<usize>
         ensures some { IfSome result (λ k. (client ≡ k + 1) × (k < 32)) }
         ensures none { IfNone result ((client ≡ 0) ⊎ (32 < client)) }
@@ -426,7 +441,7 @@ impl<A: Allocator + Copy> Desk<A> {
     }
 }
 
-/// No wl_pointers of as many clients as there may be.
+/// No wl_pointers, for as many clients as there may be.
 fn seats_of<A: Allocator + Copy>(alloc: A) -> Result<Vec<Vec<u32, A>, A>, AllocError>
     ensures { IfOk result (λ seats. vec_len seats ≡ 32) }
 {
@@ -437,7 +452,7 @@ fn seats_of<A: Allocator + Copy>(alloc: A) -> Result<Vec<Vec<u32, A>, A>, AllocE
     Ok(seats)
 }
 
-/// As many clients as there may be were told of no button.
+/// No serials, for as many clients as there may be.
 fn no_serials<A: Allocator + Copy>(alloc: A) -> Result<Vec<Latest, A>, AllocError>
     ensures { IfOk result (λ latest. vec_len latest ≡ 32) }
 {
@@ -448,8 +463,8 @@ fn no_serials<A: Allocator + Copy>(alloc: A) -> Result<Vec<Latest, A>, AllocErro
     Ok(latest)
 }
 
-/// What became of a client's message, by how the client is then. That it ran out of memory it is told as an error of wl_display; one that was too
-/// slow is told nothing.
+/// How a client's message fared, by how the client fares then. A client that ran out of memory is
+/// told so, as an error of wl_display. One that was too slow is told nothing.
 fn served_of(fed: Fed) -> Served
     ensures { result ≡ served_of fed }
 {

@@ -1,4 +1,4 @@
-//! Motions: the pointer goes to a point, and a toplevel that it moves goes along.
+//! Motions: the pointer moves to a point, and a toplevel that it drags goes along.
 
 ghost use Rattle.std.specs.Prelude.{◌≡◌, None, Some, map};
 ghost use Rattle.wl_scene.specs.Focus.{action_of, target_of};
@@ -19,10 +19,13 @@ use wl_clients::Done;
 use wl_scene::{Action, Actions, Point, Target};
 
 impl<A: Allocator + Copy> Desk<A> {
-    /// The pointer goes to a point of the output in pixels, held within it, at a time in milliseconds. A toplevel that it moves goes along,
-    /// and its windows are marked. The surface that keeps the focus is told of the motion, unless a toplevel is moved; where the focus moves,
-    /// the one that had it is left and the other entered (wayland.xml, wl_pointer.motion, leave and enter): so it is settled once. Who can't be
-    /// told is to end (see [`Desk::struck`]).
+    /// The pointer moves to a point of the output in pixels, held within it, at a time in
+    /// milliseconds. A toplevel that it drags goes along, and its windows are marked.
+    ///
+    /// Then the focus is settled once. If it stays, its surface is told of the motion, unless a
+    /// toplevel is dragged. If it moves, the old surface is left and the new one entered
+    /// (wayland.xml, wl_pointer.motion, leave and enter). A client that can't be told is to end
+    /// (see [`Desk::struck`]).
     pub fn motion(&mut self, time: u32, x: i32, y: i32)
         ensures leads { LeadsOnceEnded (Single (Motion time x y) Done.Motion) self.old self.new }
         ensures sides { IsAsLarge self.old.damage self.new.damage }
@@ -40,7 +43,7 @@ impl<A: Allocator + Copy> Desk<A> {
         self.apply_all(&actions);
     }
 
-    /// A toplevel goes along with the pointer, if it moves one. That is marked, and no more.
+    /// Moves the toplevel that the pointer drags, if it drags one. Only that is marked.
     fn drag(&mut self, moves: &Actions)
         ensures moves { (m : Midstep) → IsTelling self.old.desk m → HasNumber self.old.desk (first_moved (map action_of moves.now.items))
             → IsTelling self.new.desk (with_standing (first_dragged (map action_of moves.now.items) m.desktop.standing) m) }
@@ -57,7 +60,7 @@ impl<A: Allocator + Copy> Desk<A> {
         self.drag_by(*action);
     }
 
-    /// So it does where this is what the pointer does.
+    /// Does so if this is the action.
     fn drag_by(&mut self, action: Action)
         ensures moves { (m : Midstep) → IsTelling self.old.desk m → HasNumber self.old.desk (moved_of (action_of action))
             → IsTelling self.new.desk (with_standing (dragged (action_of action) m.desktop.standing) m) }
@@ -73,7 +76,7 @@ impl<A: Allocator + Copy> Desk<A> {
         self.move_by(toplevel, x, y);
     }
 
-    /// A toplevel moves by a difference. That is marked, and no more.
+    /// Moves a toplevel by a difference, in pixels. Only that is marked.
     fn move_by(&mut self, toplevel: Target, x: i64, y: i64)
         ensures moves { (m : Midstep) → IsTelling self.old.desk m → HasNumber self.old.desk (Some (target_of toplevel))
             → IsTelling self.new.desk (with_standing (moved_standing (target_of toplevel) x y m.desktop.standing) m) }

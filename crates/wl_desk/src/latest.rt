@@ -7,7 +7,7 @@ ghost use Rattle.wl_desk.specs.View.{latest_of, no_latest};
 use crate::seating::place_in;
 use wl_clients::{ClientNo, Latest};
 
-/// A client was told of no button.
+/// The serials of a client that was told of no button.
 pub(crate) fn none() -> Latest
     ensures { result ≡ no_latest }
 {
@@ -17,7 +17,7 @@ pub(crate) fn none() -> Latest
     }
 }
 
-/// Those of the client of this number: none where it is the number of no place.
+/// The serials of the client of this number. There are none if the number has no place.
 pub(crate) fn latest_of(latest: &[Latest], client: ClientNo) -> Latest
     ensures { result ≡ latest_of latest.now client }
 {
@@ -30,7 +30,7 @@ pub(crate) fn latest_of(latest: &[Latest], client: ClientNo) -> Latest
     }
 }
 
-/// The client of this number was told of no button.
+/// Forgets which buttons the client of this number was told of.
 pub(crate) fn forget(latest: &mut [Latest], client: ClientNo)
     ensures { latest.new ≡ changed_of (λ l. no_latest) client latest.old }
 {
@@ -40,7 +40,7 @@ pub(crate) fn forget(latest: &mut [Latest], client: ClientNo)
     latest[k] = none();
 }
 
-/// The client of this number was told of a press, or of a release, with this serial.
+/// Notes that the client of this number was told of a press, or of a release, with this serial.
 pub(crate) fn note(latest: &mut [Latest], client: ClientNo, serial: u32, pressed: bool)
     ensures { latest.new ≡ changed_of (noted_by pressed serial) client latest.old }
 {
@@ -50,7 +50,7 @@ pub(crate) fn note(latest: &mut [Latest], client: ClientNo, serial: u32, pressed
     latest[k] = noted(latest[k], serial, pressed);
 }
 
-/// These with that of the latest press, or of the latest release.
+/// The serials with a new one for the latest press, or for the latest release.
 fn noted(latest: Latest, serial: u32, pressed: bool) -> Latest
     ensures { result ≡ noted_by pressed serial latest }
 {

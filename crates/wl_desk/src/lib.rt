@@ -1,4 +1,5 @@
-//! The desk: all clients with the windows that they show, and the pointer over them.
+//! The desk: all clients with the windows that they show, and the pointer over them. Begin with
+//! [`Desk::serve`], then `motion` and `button`. Steps, frames and reports are left to wl_session.
 #![tactic(auto)]
 
 mod desks;

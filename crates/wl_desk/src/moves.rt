@@ -1,4 +1,5 @@
-//! Which toplevel is moved with the pointer: where that begins, and where it ends (xdg-shell.xml, xdg_toplevel.move).
+//! Which toplevel is moved with the pointer: where that begins, and where it ends (xdg-shell.xml,
+//! xdg_toplevel.move).
 
 ghost use Rattle.std.specs.Prelude.{◌≡◌};
 ghost use Rattle.std.specs.List.{list_any};
@@ -17,8 +18,8 @@ use wl_clients::{ClientNo, PointerAsked};
 use wl_scene::Target;
 use wl_surface::SurfaceNo;
 
-/// A toplevel that its client may move with the pointer: the number of its surface, the surface by its id, and the serial of the press
-/// that began the present hold.
+/// A toplevel that its client may move with the pointer. It has the number of its surface, the
+/// surface by its id, and the serial of the press that began the present hold.
 #[derive(Clone, Copy)]
 pub(crate) struct Movable {
     pub(crate) number: SurfaceNo,
@@ -41,7 +42,8 @@ pub(crate) fn to_move(movable: Option<Movable>, asked: PointerAsked) -> Option<T
 }
 
 impl<A: Allocator + Copy> Desk<A> {
-    /// The toplevel that a client may move with the pointer: a press was sent that began the present hold, and the focus is in its own tree.
+    /// The toplevel that a client may move with the pointer, if there is one. The press that began
+    /// the present hold was sent, and the focus is in the toplevel's own tree.
     pub(crate) fn movable(&self, client: ClientNo) -> Option<Movable>
         ensures { (d : Desktop) → Agrees self.now.desk d → IsMovable (numbers_in self.now.desk.kept.clients client) client d result }
     {
@@ -85,7 +87,7 @@ impl<A: Allocator + Copy> Desk<A> {
         self.clients.stands(toplevel.client, number)
     }
 
-    /// A toplevel that doesn't stand any more isn't moved any more.
+    /// Stops moving a toplevel that doesn't stand any more.
     pub(crate) fn let_go(&mut self)
         ensures pointer { (e : Desktop) → KeptAgrees self.old.desk.kept e → self.new.desk.pointer ≡ keeping e.standing self.old.desk.pointer }
         ensures kept { self.new.desk.kept ≡ self.old.desk.kept }

@@ -1,4 +1,5 @@
-//! What the pointer does at the desk: what it hits, what clients are told of it, and how its focus is settled.
+//! What the pointer does at the desk: what it hits, what clients are told of it, and how its focus
+//! is settled.
 
 ghost use Rattle.std.specs.Prelude.{ℕ, ◌≡◌, ◌≢◌, ◌≤◌, ◌∷◌, [], List, Some, None, true, false, filter, length, map};
 ghost use Rattle.wl_client.specs.Pointers.{has_any};
@@ -35,7 +36,7 @@ use wl_clients::{ClientNo, PointerEvent};
 use wl_scene::{Action, Actions, Stacked, Target, fixed};
 
 impl<A: Allocator + Copy> Desk<A> {
-    /// The surface that the pointer hits, if it is anywhere.
+    /// The surface that the pointer hits, if it has a place.
     pub(crate) fn hit(&self) -> Option<Target>
         ensures { (m : Midstep) → IsTelling self.now.desk m → target_or_none result ≡ hit_by m.desktop.pointer.place (all_windows m.desktop) }
     {
@@ -55,8 +56,8 @@ impl<A: Allocator + Copy> Desk<A> {
         })
     }
 
-    /// What the focus goes by: what the pointer hits where no button is down, and whether the surface that has the focus has a window where
-    /// one is.
+    /// By what the focus is settled: what the pointer hits, if no button is down, and whether the
+    /// focused surface has a window, if one is.
     pub(crate) fn seen(&self) -> (Option<Target>, bool)
         ensures { (m : Midstep) → IsMidway self.now.desk m
             → IsSeen (target_or_none result.0) result.1 m.desktop.pointer (all_windows m.desktop) }
@@ -89,7 +90,8 @@ impl<A: Allocator + Copy> Desk<A> {
         self.clients.window(target.client, number)
     }
 
-    /// Where the pointer is, as a surface is told it that has this window: from the upper left corner, in 256ths of a pixel.
+    /// Where the pointer is relative to the upper left corner of the surface with this window, in
+    /// 256ths of a pixel.
     fn point_in(&self, target: Target) -> Option<(i32, i32)>
         ensures { (m : Midstep) → IsTelling self.now.desk m
             → result ≡ point_told m.desktop.pointer.place (focus_window (Some (target_of target)) (all_windows m.desktop)) }
@@ -99,7 +101,7 @@ impl<A: Allocator + Copy> Desk<A> {
         Some((fixed(place.x, window.x), fixed(place.y, window.y)))
     }
 
-    /// A surface is told that it is entered (wayland.xml, wl_pointer.enter).
+    /// Tells a surface that it is entered (wayland.xml, wl_pointer.enter).
     fn enter(&mut self, target: Target)
         ensures tells { (ws : List Window) (m : Midstep) → IsTelling self.old.desk m → ws ≡ all_windows m.desktop
             → is_stacked (target_of target) ws ≡ true → m.desktop.pointer.place ≢ None
@@ -119,8 +121,8 @@ impl<A: Allocator + Copy> Desk<A> {
         self.tell(target.client, PointerEvent::Enter { surface, x, y });
     }
 
-    /// A new wl_pointer of the client that has the focus, and it alone, is told that the surface is entered. False where a client is to end
-    /// then, as where that wasn't queued.
+    /// Tells only a new wl_pointer of the focused client that the surface is entered. The answer is
+    /// false if a client is to end then, as when that wasn't queued.
     pub(crate) fn enter_new(&mut self, target: Target, pointer: u32) -> bool
         ensures tells { (m : Midstep) → IsTelling self.old.desk m → is_stacked (target_of target) (all_windows m.desktop) ≡ true
             → m.desktop.pointer.place ≢ None
@@ -139,7 +141,7 @@ impl<A: Allocator + Copy> Desk<A> {
         self.struck().is_none()
     }
 
-    /// A new wl_pointer, and it alone, is told so.
+    /// Tells only a new wl_pointer that the surface is entered.
     fn enter_alone(&mut self, target: Target, pointer: u32)
         ensures tells { (m : Midstep) → IsTelling self.old.desk m → is_stacked (target_of target) (all_windows m.desktop) ≡ true
             → m.desktop.pointer.place ≢ None
@@ -160,7 +162,7 @@ impl<A: Allocator + Copy> Desk<A> {
         self.clients.tell(target.client, &[pointer], event);
     }
 
-    /// A surface that is there is told that it is left (wayland.xml, wl_pointer.leave).
+    /// Tells a surface that is there that it is left (wayland.xml, wl_pointer.leave).
     fn leave(&mut self, target: Target)
         ensures tells { (m : Midstep) → IsTelling self.old.desk m
             → (n : Midstep) × Tells (leave_drawn target.surface) (left_surface target.surface) target.client m n × IsTelling self.new.desk n }
@@ -181,7 +183,7 @@ impl<A: Allocator + Copy> Desk<A> {
         }
     }
 
-    /// A surface is told of a motion at this time (wayland.xml, wl_pointer.motion).
+    /// Tells a surface of a motion at this time, in milliseconds (wayland.xml, wl_pointer.motion).
     fn move_over(&mut self, target: Target, time: u32)
         ensures tells { (ws : List Window) (m : Midstep) → IsTelling self.old.desk m → ws ≡ all_windows m.desktop
             → is_stacked (target_of target) ws ≡ true → m.desktop.pointer.place ≢ None
@@ -200,7 +202,8 @@ impl<A: Allocator + Copy> Desk<A> {
         self.tell(target.client, PointerEvent::Motion { time, x, y });
     }
 
-    /// A surface is told that a button is pressed, or released, at this time (wayland.xml, wl_pointer.button).
+    /// Tells a surface that a button is pressed or released at this time, in milliseconds
+    /// (wayland.xml, wl_pointer.button).
     fn press_over(&mut self, target: Target, time: u32, button: u32, pressed: bool)
         ensures tells { (m : Midstep) → IsTelling self.old.desk m
             → (n : Midstep) × Tells (λ r. noted_if (has_pointers r) pressed r) (button_told time button (number_of pressed)) target.client m n
@@ -221,7 +224,8 @@ impl<A: Allocator + Copy> Desk<A> {
         self.note(target.client, serial, pressed);
     }
 
-    /// The serial with which the wl_pointers of a client, if it has any, were told of a press, or of a release, is kept as that of its latest.
+    /// Keeps the serial with which a client was told of a press or of a release as that of its
+    /// latest, if it has wl_pointers.
     fn note(&mut self, client: ClientNo, serial: Option<u32>, pressed: bool)
         ensures noted { has_any (seat_of self.old.desk.seats client) ≡ true → (n : ℕ) → serial ≡ Some n
             → latest_of self.new.desk.latest client ≡ noted_by pressed n (latest_of self.old.desk.latest client) }
@@ -241,8 +245,8 @@ impl<A: Allocator + Copy> Desk<A> {
         note(&mut self.latest, client, serial, pressed);
     }
 
-    /// The wl_pointers of a client are told an event. Where the change leaves the serials of its latest press and release, what is kept of those
-    /// agrees; else it does with what comes of it.
+    /// Tells the wl_pointers of a client an event. If the change leaves the serials of its latest
+    /// press and release, the serials kept agree with them; else they agree with what comes of it.
     fn tell(&mut self, client: ClientNo, event: PointerEvent)
         ensures tells { (change : Resident → Resident) (events : Resident → List Said) (m : Midstep) → IsTelling self.old.desk m
             → IsToldOf event change events (client_at client m.desktop) → KeepsSerials change
@@ -262,8 +266,8 @@ impl<A: Allocator + Copy> Desk<A> {
             .tell(client, seat_of(&self.seats, client), event);
     }
 
-    /// What is told of one thing that the pointer does is told: surfaces are left, entered, and told of a motion or of a button. That a toplevel
-    /// comes to the top or is moved, and that popups are dismissed, is done apart.
+    /// Tells clients of one action of the pointer: surfaces are left, entered, and told of a motion
+    /// or of a button. Other places raise and move toplevels and dismiss popups.
     fn apply(&mut self, action: Action)
         ensures tells { (ws : List Window) (m : Midstep) → IsTelling self.old.desk m → ws ≡ all_windows m.desktop
             → IsTellable m.desktop.pointer.place ws (action_of action)
@@ -285,7 +289,7 @@ impl<A: Allocator + Copy> Desk<A> {
         }
     }
 
-    /// So are these, one after another.
+    /// Tells clients of these actions, one after another.
     fn apply_each(&mut self, actions: &[Action])
         ensures tells { (m : Midstep) → IsTelling self.old.desk m
             → Each (IsTellable m.desktop.pointer.place (all_windows m.desktop)) (map action_of actions.now)
@@ -301,7 +305,8 @@ impl<A: Allocator + Copy> Desk<A> {
         }
     }
 
-    /// What is told of what the pointer does is told, one after another: of the focus, that is all that it does.
+    /// Tells clients of all that the pointer does, one after another. When only the focus is
+    /// settled, that is all that it does.
     pub(crate) fn apply_all(&mut self, actions: &Actions)
         ensures told { (m : Midstep) → IsTelling self.old.desk m
             → Each (IsTellable m.desktop.pointer.place (all_windows m.desktop)) (map action_of actions.now.items)
@@ -319,8 +324,9 @@ impl<A: Allocator + Copy> Desk<A> {
         self.apply_each(actions.as_slice());
     }
 
-    /// The focus is settled once: where it moves, the surface that had it is left, and the one that the pointer hits is entered. Nothing is
-    /// marked. Who can't be told of it is to end (see [`Desk::struck`]), and then the focus is to be settled again.
+    /// Settles the focus once: if it moves, the old surface is left, and the one that the pointer
+    /// hits is entered. Nothing is marked. If a client can't be told, it is to end (see
+    /// [`Desk::struck`]), and the focus is to be settled again.
     pub fn settle(&mut self)
         ensures settles { (m : Midstep) → IsMidway self.old.desk m → (n : Midstep) × Settles m n × IsMidway self.new.desk n }
         ensures damage { self.new.damage ≡ self.old.damage }
@@ -332,7 +338,8 @@ impl<A: Allocator + Copy> Desk<A> {
         self.apply_all(&actions);
     }
 
-    /// The focus is settled once after a message. Where the client lives on and no windows were touched it is settled still, and nothing is done.
+    /// Settles the focus once after a message. If the client lives on and no windows were touched,
+    /// it is settled already, and nothing is done.
     pub(crate) fn settle_after(&mut self, lives: bool, touches_windows: bool)
         ensures settles { (m : Midstep) → IsMidway self.old.desk m → (lives ≡ true → touches_windows ≡ false → IsSettled m.desktop)
             → (n : Midstep) × Settles m n × IsMidway self.new.desk n }
@@ -347,7 +354,8 @@ impl<A: Allocator + Copy> Desk<A> {
         self.settle();
     }
 
-    /// The least number of a client that is to end since an event for it wasn't queued. There are 32 numbers.
+    /// The least number of a client that is to end, since an event for it wasn't queued. There are
+    /// 32 numbers.
     pub fn struck(&self) -> Option<ClientNo>
         ensures first { (m : Midstep) → IsTelling self.now.desk m → result ≡ first_struck m.struck }
         ensures count { length self.now.desk.kept.clients ≡ 32 }
@@ -355,8 +363,9 @@ impl<A: Allocator + Copy> Desk<A> {
         self.clients.first_refused()
     }
 
-    /// The client that is to end first does, for the cause for which an event wasn't queued, and the pointer leaves it. It is told nothing. Its
-    /// windows are marked, and no more. The focus is to be settled then.
+    /// Ends the client that is to end first, for the cause for which an event wasn't queued, and
+    /// the pointer leaves it. It isn't told. Only its windows are marked. The focus is to be
+    /// settled then.
     pub fn end_struck(&mut self, client: ClientNo)
         ensures ends { (s : Strike) (ss : List Strike) (m : Midstep) → s.client ≡ client → m.struck ≡ s ∷ ss → IsMidway self.old.desk m
             → IsMidway self.new.desk (record { desktop = ended_by s m.desktop; struck = ss }) }

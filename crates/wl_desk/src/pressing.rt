@@ -1,4 +1,5 @@
-//! Buttons: a press raises a toplevel and begins a hold, and clients are told of presses and releases.
+//! Buttons: a press raises a toplevel and begins a hold, and clients are told of presses and
+//! releases.
 
 ghost use Rattle.std.specs.Prelude.{◌≡◌, false, true};
 ghost use Rattle.spec_desktop.specs.Pointer.{hit_now};
@@ -24,7 +25,8 @@ use std::alloc::Allocator;
 use wl_clients::{ClientNo, Done};
 use wl_scene::Target;
 
-/// The client whose popups with a grab a press dismisses, where this one holds a grab, if one does, and the press hits this toplevel.
+/// The client whose popups with a grab a press dismisses, if any. `holder` holds a grab, if one
+/// does, and the press hits this toplevel.
 fn released_by(holder: Option<ClientNo>, toplevel: Option<Target>) -> Option<ClientNo>
     ensures { result ≡ released_by holder (target_or_none toplevel) }
 {
@@ -36,11 +38,15 @@ fn released_by(holder: Option<ClientNo>, toplevel: Option<Target>) -> Option<Cli
 }
 
 impl<A: Allocator + Copy> Desk<A> {
-    /// A button, named by its code, is pressed or released at a time in milliseconds. The surface that has the focus is told of it
-    /// (wayland.xml, wl_pointer.button). A press brings the toplevel that it hits to the top, and dismisses the popups with a grab of a client
-    /// of which it hits no surface (xdg-shell.xml, xdg_popup.grab). A press of a button that is down, or of one past 16, and a release of one
-    /// that isn't down do nothing. The windows of a toplevel that came to the top and of popups that were dismissed are marked. The focus is
-    /// settled once; who can't be told is to end (see [`Desk::struck`]).
+    /// A button, named by its code, is pressed or released at a time in milliseconds. The surface
+    /// that has the focus is told of it (wayland.xml, wl_pointer.button). Nothing is done for a
+    /// press of a button that is down, for one past 16, and for a release of one that isn't down.
+    ///
+    /// A press raises the toplevel that it hits. It dismisses the popups with a grab of a client,
+    /// if it hits no surface of that client (xdg-shell.xml, xdg_popup.grab). The windows of a
+    /// raised toplevel and of dismissed popups are marked.
+    ///
+    /// The focus is settled once. A client that can't be told is to end (see [`Desk::struck`]).
     pub fn button(&mut self, time: u32, button: u32, pressed: bool)
         ensures leads { LeadsOnceEnded (Single (Button time button pressed) Done.Button) self.old self.new }
         ensures sides { IsAsLarge self.old.damage self.new.damage }
@@ -87,7 +93,8 @@ impl<A: Allocator + Copy> Desk<A> {
         self.settle();
     }
 
-    /// The toplevel that the window is stacked with that the pointer hits, if it hits one.
+    /// The toplevel under the pointer: the one that the window is stacked with which it hits, if it
+    /// hits one.
     fn toplevel_hit(&self) -> Option<Target>
         ensures hit { (m : Midstep) → IsTelling self.now.desk m
             → toplevel_of (hit_now m.desktop.pointer.place (all_windows m.desktop)) ≡ target_or_none result }
@@ -100,7 +107,8 @@ impl<A: Allocator + Copy> Desk<A> {
         Some(Target { client, surface })
     }
 
-    /// The serial of the press that begins the hold in which a press comes now: of that press, where it is the first.
+    /// The serial of the press that begins the hold of a press that comes now: its own, if it is
+    /// the first.
     fn hold_serial(&self) -> Option<u32>
         ensures { (d : Desktop) → Agrees self.now.desk d → result ≡ hold_from d.pointer.buttons d.pointer d }
     {
@@ -110,7 +118,7 @@ impl<A: Allocator + Copy> Desk<A> {
         self.press_serial()
     }
 
-    /// The serial that a press is told with that begins a hold now, where its client has wl_pointers.
+    /// The serial with which a press that begins a hold now is told, if its client has wl_pointers.
     fn press_serial(&self) -> Option<u32>
         ensures { (d : Desktop) → Agrees self.now.desk d → result ≡ press_serial d.pointer.focus d }
     {
@@ -121,7 +129,8 @@ impl<A: Allocator + Copy> Desk<A> {
         self.clients.serial(focus.client)
     }
 
-    /// The popups with a grab of this client, if one is given, are dismissed, and it is told so. Their windows are marked, and no more.
+    /// Dismisses the popups with a grab of this client, if one is given, and tells it so. Only
+    /// their windows are marked.
     fn release_grabs(&mut self, holder: Option<ClientNo>)
         ensures releases { (m : Midstep) → IsTelling self.old.desk m
             → (n : Midstep) × Releases holder m n × IsTelling self.new.desk n × MarksJust m.desktop n.desktop self.old.damage self.new.damage }
@@ -134,7 +143,7 @@ impl<A: Allocator + Copy> Desk<A> {
         }
     }
 
-    /// A toplevel, if one is given, comes to the top of the others. That is marked, and no more.
+    /// Raises a toplevel, if one is given. Only that is marked.
     fn raise(&mut self, toplevel: Option<Target>)
         ensures raises { (m : Midstep) → IsTelling self.old.desk m → HasNumber self.old.desk (target_or_none toplevel)
             → IsTelling self.new.desk (with_standing (raised_to (target_or_none toplevel) m.desktop.standing) m) }

@@ -8,7 +8,7 @@ use crate::seats::{add, reserve};
 use std::alloc::Allocator;
 use wl_clients::{ClientNo, PointerAsked};
 
-/// Where what is kept of the client of this number stands, among so many.
+/// Where the values of the client of this number are, among this many.
 pub(crate) fn place_in(client: ClientNo, count: usize) -> Option<usize>
     ensures some { IfSome result (λ k. (client ≡ k + 1) × (k < count)) }
     ensures none { IfNone result ((client ≡ 0) ⊎ (count < client)) }

@@ -9,7 +9,7 @@ ghost use Rattle.wl_desk.specs.View.{seat_of};
 use spec_desktop::ClientNo;
 use std::alloc::Allocator;
 
-/// The wl_pointers of the client of this number: none where it is the number of no place.
+/// The wl_pointers of the client of this number. There are none if the number has no place.
 pub(crate) fn seat_of<A: Allocator>(seats: &[Vec<u32, A>], client: ClientNo) -> &[u32]
     ensures { result.now ≡ seat_of (map (λ s. s.items) seats.now) client }
 {
@@ -22,7 +22,7 @@ pub(crate) fn seat_of<A: Allocator>(seats: &[Vec<u32, A>], client: ClientNo) -> 
     }
 }
 
-/// Makes room for one more wl_pointer, and answers whether there is. No wl_pointer comes.
+/// Makes room for one more wl_pointer, and answers whether there is. None is added.
 pub(crate) fn reserve<A: Allocator>(pointers: &mut Vec<u32, A>) -> bool
     ensures room { result ≡ true → vec_len pointers.new < vec_capacity pointers.new }
     ensures same { pointers.new.items ≡ pointers.old.items }
@@ -37,7 +37,8 @@ fn place_after(pointers: &[u32], id: u32) -> Option<usize>
     pointers.iter().position(|pointer| id < *pointer)
 }
 
-/// Where a wl_pointer with this id stands among those that rise: before the first with a greater one.
+/// Where a wl_pointer with this id stands among others that rise: before the first with a greater
+/// one.
 fn place_for(pointers: &[u32], id: u32) -> usize
     ensures place { result ≡ position_or_len (λ pointer. nat_lt id pointer) pointers.now }
     ensures within { result ≤ length pointers.now }
@@ -48,7 +49,7 @@ fn place_for(pointers: &[u32], id: u32) -> usize
     }
 }
 
-/// Puts a wl_pointer among those of its client, for which there is room.
+/// Puts a wl_pointer among those of its client. There is room for it.
 pub(crate) fn add<A: Allocator>(pointers: &mut Vec<u32, A>, id: u32)
     requires { vec_len pointers.old < vec_capacity pointers.old }
     ensures { pointers.new.items ≡ in_rising_order id pointers.old.items }

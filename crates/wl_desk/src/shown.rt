@@ -19,7 +19,8 @@ impl<A: Allocator + Copy> Desk<A> {
         self.clients.window_count()
     }
 
-    /// The window at place `k` of the stacking order, counted from 0 at the bottom. That there are more than `k` is the caller's condition.
+    /// The window at place `k` of the stacking order, counted from 0 at the bottom. The caller
+    /// makes sure that there are more than `k`.
     pub fn window(&self, k: usize) -> ShownWindow
         requires { k < windows_kept self.now.desk.kept }
         ensures { (d : Desktop) → Agrees self.now.desk d → slice_get (shown_windows d) k ≡ Some result }

@@ -1,4 +1,4 @@
-//! Rectangles cut at lines, and what is left of one round a hole.
+//! Rectangles cut at lines, and what is left of a rectangle around a hole.
 
 ghost use Rattle.std.specs.Prelude.{◌≡◌, ◌<ℤ◌, ◌&&◌, ℤ, All, not, int_le, int_lt, pos};
 ghost use Rattle.wl_geom.specs.Rect.{count_at, in_rect, is_point, bit};
@@ -10,7 +10,7 @@ use crate::span::{len_before, span_from};
 const PAST_LAST: i64 = 1 << 31;
 
 impl Rect {
-    /// Its points whose coordinates fit an `i32`, as a rectangle whose edges aren't past them.
+    /// Its points whose coordinates fit an `i32`, as a rectangle whose edges fit too.
     pub(crate) fn clipped(&self) -> Rect
         ensures points { (x y : ℤ) → in_rect x y result ≡ (is_point x y && in_rect x y self.now) }
         ensures ends { EndsInRange result }
@@ -60,8 +60,8 @@ impl Rect {
         Rect { x, w, ..*self }
     }
 
-    /// What is left of it round a hole that has points: above, to the left, to the right and below.
-    /// No two of the four share a point.
+    /// What is left of it around a hole that has points: above, to the left, to the right and
+    /// below. No two of the four share a point.
     pub(crate) fn around(&self, hole: &Rect) -> [Rect; 4]
         requires ends { EndsInRange self.now }
         requires wide { pos 0 <ℤ hole.now.w }

@@ -1,4 +1,5 @@
-//! The changes of a region as they are kept. The last of them whose rectangle contains a point decides whether the region holds it.
+//! The changes of a region. The last of them whose rectangle contains a point decides whether the
+//! region holds it.
 
 ghost use Rattle.std.specs.Prelude.{◌≡◌, ◌+◌, ◌+ℤ◌, ◌<◌, ◌≤◌, ◌≤ℤ◌, ◌^◌, ◌↔◌, ℕ, IsTrue, true, false, pos};
 ghost use Rattle.wl_geom.specs.Edits.{is_held};
@@ -26,7 +27,8 @@ pub(crate) fn is_held(edits: &[Edit], x: i32, y: i32) -> bool
     false
 }
 
-/// How many of the `count` points from (x, y) to the right are held, up to where another change decides.
+/// How many of the `count` points from (x, y) to the right are held, up to where another change
+/// decides.
 fn count_held(edits: &[Edit], x: i32, y: i32, count: u32) -> u32
     requires { 1 ≤ count }
     ensures held { (i : ℕ) → i < result → is_held (x +ℤ pos i) y edits.now ≡ true }

@@ -1,8 +1,7 @@
 //! Rectangles and regions of points with 32-bit coordinates, as `wl_region` and damage requests use
-//! them.
-//!
-//! A [`Rect`] is what a request carries. A [`Region`] keeps the list of the adds and subtracts that
-//! were made on it.
+//! them. Begin with [`Rect`], which a request carries, then [`Region`], which keeps the adds and
+//! subtracts made on it. What a point is (of a surface, a buffer or the output) is left to the
+//! crates above.
 #![tactic(auto)]
 
 mod cut;

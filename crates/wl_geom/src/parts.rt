@@ -9,7 +9,7 @@ use crate::edits::Edit;
 use crate::rect::Rect;
 use std::alloc::{AllocError, Allocator};
 
-/// Puts the rectangle at the end if it has points.
+/// Appends the rectangle if it has points.
 fn push_part<A: Allocator>(parts: &mut Vec<Rect, A>, part: &Rect) -> Result<(), AllocError>
     ensures points { OnOk result ((x y : ℤ) → count_at x y parts.new.items ≡ count_at x y parts.old.items + bit (in_rect x y part.now)) }
     ensures ends { All EndsInRange parts.old.items → EndsInRange part.now → All EndsInRange parts.new.items }
@@ -21,7 +21,7 @@ fn push_part<A: Allocator>(parts: &mut Vec<Rect, A>, part: &Rect) -> Result<(), 
     Ok(())
 }
 
-/// Puts each of the rectangles that has points at the end.
+/// Appends those of the rectangles that have points.
 fn push_parts<A: Allocator>(parts: &mut Vec<Rect, A>, more: &[Rect]) -> Result<(), AllocError>
     ensures points { OnOk result ((x y : ℤ) → count_at x y parts.new.items ≡ count_at x y parts.old.items + count_at x y more.now) }
     ensures ends { All EndsInRange parts.old.items → All EndsInRange more.now → All EndsInRange parts.new.items }
@@ -32,7 +32,7 @@ fn push_parts<A: Allocator>(parts: &mut Vec<Rect, A>, more: &[Rect]) -> Result<(
     Ok(())
 }
 
-/// Puts what is left of the rectangle without the hole at the end.
+/// Appends what is left of the rectangle without the hole.
 fn push_around<A: Allocator>(
     parts: &mut Vec<Rect, A>,
     rect: &Rect,
@@ -77,8 +77,9 @@ fn edited<A: Allocator>(alloc: A, rects: &[Rect], edit: &Edit) -> Result<Vec<Rec
     Ok(parts)
 }
 
-/// Disjoint rectangles of the points that are held after the changes. Each change cuts the rectangles that it meets and leaves the others
-/// whole. The edges of all of them are edges of changes, so after `n` changes there are at most `(2n - 1)²` of them.
+/// Disjoint rectangles of the points that are held after the changes. Each change cuts the
+/// rectangles that it meets, and leaves the others whole. All edges are edges of changes, so `n`
+/// changes make at most `(2n - 1)²` rectangles.
 pub(crate) fn rects_of<A: Allocator + Copy>(
     alloc: A,
     edits: &[Edit],

@@ -34,7 +34,8 @@ impl Rect {
         count_before_span(self.x, self.w, x, count)
     }
 
-    /// How many of the `count` points from (x, y) to the right are in it, up to the first that isn't.
+    /// How many of the `count` points from (x, y) to the right are in it, up to the first that
+    /// isn't.
     pub(crate) fn count_inside(&self, x: i32, y: i32, count: u32) -> u32
         requires { 1 ≤ count }
         ensures inside { (i : ℕ) → i < result → in_rect (x +ℤ pos i) y self.now ≡ true }
@@ -53,7 +54,7 @@ impl Rect {
         self.w <= 0 || self.h <= 0
     }
 
-    /// Whether it shares no point with the other, as one without points or one beside it.
+    /// Whether it shares no point with the other. One without points shares none.
     pub(crate) fn misses(&self, other: &Rect) -> bool
         ensures apart { IsTrue result → (x y : ℤ) → (in_rect x y self.now && in_rect x y other.now) ≡ false }
         ensures wide { result ≡ false → pos 0 <ℤ other.now.w }
@@ -62,7 +63,7 @@ impl Rect {
         other.is_empty() || !self.may_meet(other)
     }
 
-    /// Whether it shares points with the other, where both have points.
+    /// Whether it shares points with the other, if both have points.
     fn may_meet(&self, other: &Rect) -> bool
         ensures { result ≡ false → (x y : ℤ) → (in_rect x y self.now && in_rect x y other.now) ≡ false }
     {

@@ -36,8 +36,8 @@ impl From<AllocError> for RegionError {
 
 /// A set of points with 32-bit coordinates, made by adds and subtracts of rectangles.
 ///
-/// It keeps the list of the changes that were made on it: 20 bytes for each. The last one whose
-/// rectangle contains a point decides whether the region holds it.
+/// It keeps the list of its changes, 20 bytes each. The last one whose rectangle contains a point
+/// decides whether the region holds it.
 #[derive(Drop)]
 pub struct Region<A: Allocator> {
     edits: Vec<Edit, A>,
@@ -78,8 +78,8 @@ impl<A: Allocator> Region<A> {
         is_held(&self.edits, x, y)
     }
 
-    /// Whether the region holds each of the `w` points from (x, y) to (x + w - 1, y). With no points it is true; a point past the last
-    /// coordinate is not held. It takes no memory.
+    /// Whether the region holds each of the `w` points from (x, y) to (x + w - 1, y). With no
+    /// points the answer is yes. A point past the last coordinate isn't held. It takes no memory.
     pub fn covers_run(&self, x: i32, y: i32, w: u32) -> bool
         ensures held { (changes : List Change) → Stands self.now changes → (IsTrue result ↔ HoldsRun x y w changes) }
         ensures made { IsTrue result ↔ HoldsRun x y w self.now.made }
@@ -95,7 +95,7 @@ impl<A: Allocator + Copy> Region<A> {
     ghost use Rattle.wl_geom.specs.Region.{AreDisjoint, Change, Covers, Stands};
     ghost use Rattle.wl_geom.specs.Region.Change.{Add, Subtract};
 
-    /// The empty region, on which no change was made. It keeps the allocator.
+    /// The empty region, without changes. It keeps the allocator.
     pub fn new(alloc: A) -> Self
         ensures { Stands result [] }
     {
@@ -116,8 +116,9 @@ impl<A: Allocator + Copy> Region<A> {
         })
     }
 
-    /// Disjoint rectangles, in no promised order, that hold the region's points and no others. They
-    /// are made at each call, in time that grows with the square of their number: for tests and tools.
+    /// Disjoint rectangles, in no promised order, that hold the region's points and no others. Each
+    /// call makes them anew, in time that grows with the square of their number: for tests and
+    /// tools.
     ///
     /// The only error is `Memory`.
     pub fn rects(&self) -> Result<Vec<Rect, A>, RegionError>

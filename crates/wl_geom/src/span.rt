@@ -1,5 +1,5 @@
-//! Spans of one coordinate: the `len` numbers from `start` on, none where `len` is not above 0.
-//! An end may lie past the last coordinate, so ends are computed in 64 bits.
+//! Spans of one coordinate: the `len` numbers from `start` on. There are none if `len` isn't above
+//! 0. An end may lie past the last coordinate, so ends are computed in 64 bits.
 
 ghost use Rattle.std.specs.Prelude.{◌≡◌, ◌^◌, ◌<◌, ◌≤◌, ◌+ℤ◌, ◌-ℤ◌, ◌<ℤ◌, ◌≤ℤ◌, ◌&&◌, ℕ, ℤ, true, false, int_le, int_lt, nat_lt, pos};
 ghost use Rattle.wl_geom.specs.Rect.{in_span};
@@ -11,14 +11,14 @@ pub(crate) fn is_in_span(start: i32, len: i32, at: i32) -> bool
     start <= at && i64::from(at) < end_of(start, len)
 }
 
-/// The number after the last of the span, where it has any.
+/// The number after the last of the span, if it has any.
 pub(crate) fn end_of(start: i32, len: i32) -> i64
     ensures { result ≡ start +ℤ len }
 {
     i64::from(start) + i64::from(len)
 }
 
-/// Whether two spans that both have numbers share some. One without any may seem to share them.
+/// Whether two spans share a number, if both have some. One without any may seem to share one.
 pub(crate) fn may_meet(start: i32, len: i32, other: i32, other_len: i32) -> bool
     ensures { result ≡ false → (at : ℤ) → (in_span start len at && in_span other other_len at) ≡ false }
 {
@@ -110,7 +110,7 @@ pub(crate) fn count_in_span(start: i32, len: i32, from: i32, count: u32) -> u32
     count_before(from, count, end_of(start, len))
 }
 
-/// The place that is so far from the start.
+/// The place at this distance from the start.
 pub(crate) fn place_after(start: i32, distance: u32) -> i32
     requires { (start +ℤ pos distance) <ℤ pos (2 ^ 31) }
     ensures { result ≡ start +ℤ pos distance }

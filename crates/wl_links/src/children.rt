@@ -9,13 +9,16 @@ use crate::trees::SurfaceNo;
 use std::alloc::{AllocError, Allocator};
 use std::marker::Model;
 
-/// The stack of a surface and its children from below, and where the children are: pending, held and applied (wayland.xml, wl_subsurface).
-/// It is seen as these three lists. A surface without children takes no memory, and a list that wasn't changed since none of its own.
+/// The stack of a surface and its children from below, and where the children are: pending, held
+/// and applied (wayland.xml, wl_subsurface). Contracts see it as these three lists.
+///
+/// A surface without children takes no memory. A list that wasn't changed since takes none of its
+/// own.
 #[derive(Drop)]
 pub struct Children<A: Allocator> {
-    // as held, where it isn't there
+    // as held, if it isn't there
     pending: Option<Stack<A>>,
-    // as applied, where it isn't there
+    // as applied, if it isn't there
     held: Option<Stack<A>>,
     applied: Stack<A>,
 }
@@ -28,7 +31,7 @@ impl<A: Allocator> Model for Children<A> {
     ghost view = { λ children. stacks_of children.pending children.held children.applied };
 }
 
-/// A child is taken out of a stack, if it is there.
+/// Takes a child out of a stack, if it is there.
 fn remove_from<A: Allocator>(stack: &mut Option<Stack<A>>, child: SurfaceNo)
     ensures { stack.new ≡ option_map (without (Member.Child child)) stack.old }
 {
@@ -49,7 +52,7 @@ impl<A: Allocator> Children<A> {
         }
     }
 
-    /// What is held.
+    /// The held stack.
     fn held_stack(&self) -> &Stack<A>
         ensures { result.now ≡ self.now.held }
     {
@@ -59,7 +62,7 @@ impl<A: Allocator> Children<A> {
         }
     }
 
-    /// What is pending.
+    /// The pending stack.
     fn pending_stack(&self) -> &Stack<A>
         ensures { result.now ≡ self.now.pending }
     {
@@ -69,7 +72,8 @@ impl<A: Allocator> Children<A> {
         }
     }
 
-    /// What is pending, to be changed and put back: until then it is as held. Without memory nothing changes.
+    /// Takes the pending stack out, to be changed and put back; until then it is as the held one.
+    /// Without memory nothing changes.
     fn take_pending(&mut self) -> Result<Stack<A>, AllocError>
     where
         A: Copy,
@@ -83,7 +87,8 @@ impl<A: Allocator> Children<A> {
         }
     }
 
-    /// wl_subcompositor.get_subsurface: pending, the child is topmost, at (0, 0). Without memory nothing changes.
+    /// wl_subcompositor.get_subsurface: pending, the child is topmost, at (0, 0). Without memory
+    /// nothing changes.
     pub fn add(&mut self, child: SurfaceNo) -> Result<(), AllocError>
     where
         A: Copy,
@@ -96,8 +101,9 @@ impl<A: Allocator> Children<A> {
         added
     }
 
-    /// wl_subsurface.set_position: pending, the child's upper left corner is so many pixels right and down from the surface's. A surface that
-    /// is no child stays where it is. Without memory nothing changes.
+    /// wl_subsurface.set_position: pending, sets the place of the child's upper left corner, in
+    /// pixels right and down from the surface's. Nothing changes if it is no child, or without
+    /// memory.
     pub fn set_position(&mut self, child: SurfaceNo, x: i32, y: i32) -> Result<(), AllocError>
     where
         A: Copy,
@@ -110,8 +116,9 @@ impl<A: Allocator> Children<A> {
         Ok(())
     }
 
-    /// wl_subsurface.place_above and place_below: pending, the child comes right above or right below a sibling, or the surface itself, with its
-    /// position. Nothing changes where one of them isn't there, or both are the same, or there is no memory.
+    /// wl_subsurface.place_above and place_below: pending, puts the child right above or right
+    /// below a sibling or the surface itself. It keeps its position. Nothing changes if one of the
+    /// two isn't there, if both are the same, or without memory.
     pub fn place(&mut self, child: SurfaceNo, at: Member, side: Side) -> Result<(), AllocError>
     where
         A: Copy,
@@ -124,7 +131,7 @@ impl<A: Allocator> Children<A> {
         Ok(())
     }
 
-    /// wl_surface.commit of the surface: what is pending is held.
+    /// wl_surface.commit: the pending stack becomes the held one.
     pub fn hold(&mut self)
         ensures { self.new ≡ record self.old { held = self.old.pending } }
     {
@@ -133,7 +140,7 @@ impl<A: Allocator> Children<A> {
         }
     }
 
-    /// The surface's state is applied: what is held counts.
+    /// The surface's state is applied: the held stack becomes the applied one.
     pub fn apply(&mut self)
         ensures { self.new ≡ record self.old { applied = self.old.held } }
     {
@@ -142,7 +149,7 @@ impl<A: Allocator> Children<A> {
         }
     }
 
-    /// wl_subsurface.destroy: the child is in none of the three at once.
+    /// wl_subsurface.destroy: takes the child out of all three at once.
     pub fn remove(&mut self, child: SurfaceNo)
         ensures { self.new ≡ removed child self.old }
     {
@@ -151,14 +158,14 @@ impl<A: Allocator> Children<A> {
         self.applied.remove(child);
     }
 
-    /// What is applied, from below. It is the whole stack, or nothing, which stands for a surface without children.
+    /// The applied stack, from below. It is empty for a surface without children.
     pub fn applied(&self) -> &[Placed]
         ensures { whole result.now ≡ self.now.applied }
     {
         self.applied.places()
     }
 
-    /// What is pending, from below. It is the whole stack, or nothing, which stands for a surface without children.
+    /// The pending stack, from below. It is empty for a surface without children.
     pub fn pending(&self) -> &[Placed]
         ensures { whole result.now ≡ self.now.pending }
     {

@@ -1,6 +1,9 @@
-//! How the surfaces of a client hang together: which is a living subsurface of which, in which mode; the trees that this makes, each kept flat
-//! from its root; and the stack of each surface and its children, with their places, pending, held and applied; and the ids of wl_subsurfaces by the
-//! numbers of their surfaces (wayland.xml, wl_subcompositor and wl_subsurface).
+//! How the surfaces of a client hang together (wayland.xml, wl_subcompositor and wl_subsurface):
+//! their trees, their stacks, and the ids of wl_subsurfaces. Begin with [`Family`], then [`Trees`]
+//! and [`Children`]. When a surface's state is held or applied is left to wl_surface.
+//!
+//! A tree is kept flat from its root. The stack of a surface and its children is kept pending, held
+//! and applied.
 #![tactic(auto)]
 
 mod children;

@@ -23,7 +23,8 @@ pub enum Side {
     Below,
 }
 
-/// Who stands in the stack of a surface, and where its upper left corner is: in pixels right and down from that of the surface.
+/// Who stands in the stack of a surface, and where its upper left corner is, in pixels right and
+/// down from the surface's.
 #[derive(Clone, Copy, Debug, PartialEq, Eq)]
 pub struct Placed {
     pub member: Member,

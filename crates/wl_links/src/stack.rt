@@ -8,8 +8,8 @@ use crate::trees::SurfaceNo;
 use std::alloc::{AllocError, Allocator};
 use std::marker::Model;
 
-/// The stack of a surface and its children from below, with their places. It is seen as that whole list. Without children it may be empty,
-/// and takes no memory then.
+/// The stack of a surface and its children from below, with their places. Contracts see it as that
+/// whole list. Without children it may be empty, and then takes no memory.
 #[derive(Drop)]
 pub(crate) struct Stack<A: Allocator> {
     places: Vec<Placed, A>,
@@ -28,7 +28,7 @@ impl<A: Allocator> Model for Stack<A> {
     ghost invariant = { λ stack. has_member Itself (whole stack.places.items) ≡ true };
 }
 
-/// The place of a member is taken out.
+/// Takes the place of a member out.
 fn take_out<A: Allocator>(places: &mut Vec<Placed, A>, member: Member)
     ensures items { places.new.items ≡ without member places.old.items }
     ensures capacity { vec_capacity places.new ≡ vec_capacity places.old }
@@ -36,7 +36,8 @@ fn take_out<A: Allocator>(places: &mut Vec<Placed, A>, member: Member)
     places.retain(|place| !is_place_of(place, member));
 }
 
-/// A place comes right above or right below that of a member. Nothing changes where the member has none.
+/// Puts a place right above or right below that of a member. Nothing changes if the member has
+/// none.
 fn put_beside<A: Allocator>(places: &mut Vec<Placed, A>, place: Placed, at: Member, side: Side)
     requires { vec_len places.old < vec_capacity places.old }
     ensures { places.new.items ≡ beside side place at places.old.items }
@@ -61,7 +62,8 @@ fn has_other(places: &[Placed], child: SurfaceNo, member: Member) -> bool
         .any(|place| is_place_of(place, member))
 }
 
-/// A child comes right above or right below a member. Nothing changes where one of them has no place, or both are the same.
+/// Puts a child right above or right below a member. Nothing changes if one of them has no place,
+/// or both are the same.
 fn place_beside<A: Allocator>(places: &mut Vec<Placed, A>, child: SurfaceNo, at: Member, side: Side)
     ensures { places.new.items ≡ placed (beside side) child at places.old.items }
 {
@@ -85,7 +87,7 @@ impl<A: Allocator> Stack<A> {
         }
     }
 
-    /// The same stack once more.
+    /// A copy of the stack.
     pub(crate) fn copied(&self) -> Result<Self, AllocError>
     where
         A: Copy,
@@ -96,14 +98,14 @@ impl<A: Allocator> Stack<A> {
         Ok(Stack { places })
     }
 
-    /// The stack from below, or nothing where the surface has no children.
+    /// The stack from below; it may be empty if the surface has no children.
     pub(crate) fn places(&self) -> &[Placed]
         ensures { whole result.now ≡ self.now }
     {
         &self.places
     }
 
-    /// A new child is topmost, at (0, 0). Without memory nothing changes.
+    /// Puts a new child topmost, at (0, 0). Without memory nothing changes.
     pub(crate) fn add(&mut self, child: SurfaceNo) -> Result<(), AllocError>
         ensures ok { OnOk result (self.new ≡ added child self.old) }
         ensures err { OnErr result (self.new ≡ self.old) }
@@ -115,21 +117,21 @@ impl<A: Allocator> Stack<A> {
         Ok(())
     }
 
-    /// A child is moved.
+    /// Moves a child.
     pub(crate) fn set_position(&mut self, child: SurfaceNo, x: i32, y: i32)
         ensures { self.new ≡ moved child x y self.old }
     {
         move_child(&mut self.places, child, x, y);
     }
 
-    /// A child comes right above or right below a member.
+    /// Puts a child right above or right below a member.
     pub(crate) fn place(&mut self, child: SurfaceNo, at: Member, side: Side)
         ensures { self.new ≡ placed (beside side) child at self.old }
     {
         place_beside(&mut self.places, child, at, side);
     }
 
-    /// A child is taken out.
+    /// Takes a child out.
     pub(crate) fn remove(&mut self, child: SurfaceNo)
         ensures { self.new ≡ without (Member.Child child) self.old }
     {

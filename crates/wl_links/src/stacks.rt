@@ -10,7 +10,7 @@ use crate::trees::SurfaceNo;
 use std::alloc::{AllocError, Allocator};
 use std::collections::BTreeMap;
 
-/// A new child of a surface is topmost, pending. Without memory nothing changes.
+/// Puts a new child topmost in a surface's pending stack. Without memory nothing changes.
 pub(crate) fn add_child<A: Allocator + Copy>(
     stacks: &mut BTreeMap<SurfaceNo, Children<A>, A>,
     parent: SurfaceNo,
@@ -31,7 +31,8 @@ pub(crate) fn add_child<A: Allocator + Copy>(
     }
 }
 
-/// Pending, a child of a surface is moved, in pixels of the surface. Without memory nothing changes.
+/// Moves a child in a surface's pending stack, in pixels of the surface. Without memory nothing
+/// changes.
 pub(crate) fn move_child<A: Allocator + Copy>(
     stacks: &mut BTreeMap<SurfaceNo, Children<A>, A>,
     parent: SurfaceNo,
@@ -48,7 +49,8 @@ pub(crate) fn move_child<A: Allocator + Copy>(
     }
 }
 
-/// Pending, a child of a surface comes right above or right below a member. Without memory nothing changes.
+/// Puts a child right above or right below a member, in a surface's pending stack. Without memory
+/// nothing changes.
 pub(crate) fn put_beside<A: Allocator + Copy>(
     stacks: &mut BTreeMap<SurfaceNo, Children<A>, A>,
     parent: SurfaceNo,
@@ -65,7 +67,7 @@ pub(crate) fn put_beside<A: Allocator + Copy>(
     }
 }
 
-/// A child is in none of a surface's.
+/// Takes a child out of all stacks of a surface.
 pub(crate) fn take_out<A: Allocator>(
     stacks: &mut BTreeMap<SurfaceNo, Children<A>, A>,
     parent: SurfaceNo,
@@ -78,7 +80,7 @@ pub(crate) fn take_out<A: Allocator>(
     }
 }
 
-/// What is pending of a surface's is held.
+/// A surface's pending stack becomes the held one.
 pub(crate) fn hold<A: Allocator>(
     stacks: &mut BTreeMap<SurfaceNo, Children<A>, A>,
     surface: SurfaceNo,
@@ -90,7 +92,7 @@ pub(crate) fn hold<A: Allocator>(
     }
 }
 
-/// What is held of a surface's counts.
+/// A surface's held stack becomes the applied one.
 pub(crate) fn apply_held<A: Allocator>(
     stacks: &mut BTreeMap<SurfaceNo, Children<A>, A>,
     surface: SurfaceNo,
@@ -102,7 +104,7 @@ pub(crate) fn apply_held<A: Allocator>(
     }
 }
 
-/// What is applied of a surface's, or nothing, which stands for a surface without children.
+/// A surface's applied stack. It is empty for a surface without children.
 pub(crate) fn applied_of<A: Allocator>(
     stacks: &BTreeMap<SurfaceNo, Children<A>, A>,
     surface: SurfaceNo,

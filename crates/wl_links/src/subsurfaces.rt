@@ -6,8 +6,9 @@ ghost use Rattle.wl_links.specs.Subsurfaces.{IsSetAt};
 use std::alloc::{AllocError, Allocator};
 use std::marker::Model;
 
-/// For each surface of a client, by its number, the id of the wl_subsurface that was made of it, while both are there. It is seen as the list of
-/// them: the first is that of the surface with the number 0.
+/// For each surface of a client, by its number, the id of the wl_subsurface that was made of it,
+/// while both are there. Contracts see it as the list of these: the first is that of the surface
+/// with the number 0.
 #[derive(Drop)]
 pub struct Subsurfaces<A: Allocator> {
     ids: Vec<Option<u32>, A>,
@@ -54,7 +55,7 @@ impl<A: Allocator> Subsurfaces<A> {
         None
     }
 
-    /// A wl_subsurface was made of a surface. Without memory nothing changes.
+    /// Notes that a wl_subsurface was made of a surface. Without memory nothing changes.
     pub fn set(&mut self, surface: usize, id: u32) -> Result<(), AllocError>
         ensures ok { OnOk result (IsSetAt surface (Some id) self.old self.new) }
         ensures err { OnErr result (self.new ≡ self.old) }
@@ -69,7 +70,7 @@ impl<A: Allocator> Subsurfaces<A> {
         Ok(())
     }
 
-    /// The wl_subsurface of a surface is gone, or the surface is.
+    /// Forgets the wl_subsurface of a surface, since one of the two is gone.
     pub fn clear(&mut self, surface: usize)
         ensures { IsSetAt surface None self.old self.new }
     {

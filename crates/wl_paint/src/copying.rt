@@ -7,8 +7,8 @@ use crate::damage::{Damage, next_part};
 use crate::span::{Part, Span};
 use std::alloc::Allocator;
 
-/// A row of more damaged runs than this in a stretch is painted beside the image. Below it, to ask all windows for each run costs less than
-/// to paint what lies between the runs.
+/// A row with more damaged runs than this in a stretch is painted beside the image. With fewer it
+/// costs less to ask all windows for each run than to paint what lies between.
 const FEW_RUNS: u32 = 16;
 
 /// Whether the row has more than [`FEW_RUNS`] damaged runs in these columns.
@@ -46,7 +46,8 @@ fn copy_part(pixels: &mut [u8], part: Part, stretch: &[u8], from: usize)
     pixels[4 * part.first..4 * end].copy_from_slice(source);
 }
 
-/// Puts the damaged pixels of row `y` in these columns in. The stretch has the pixels of the columns.
+/// Puts the damaged pixels of row `y` in these columns into the image. The stretch has the pixels
+/// of the columns.
 pub(crate) fn copy_runs<A: Allocator>(
     pixels: &mut [u8],
     y: u32,

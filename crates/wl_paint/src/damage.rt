@@ -11,7 +11,7 @@ use wl_geom::Rect;
 
 /// Which points of an output are to be painted again. Only `new` takes memory.
 ///
-/// It knows a block all of whose points are damaged: what lies in it is not marked again.
+/// It remembers a block whose points are all damaged: what lies in it isn't marked again.
 #[derive(Drop)]
 pub struct Damage<A: Allocator> {
     width: u32,
@@ -74,7 +74,7 @@ impl<A: Allocator> Damage<A> {
         }
     }
 
-    /// Adds the points of the rectangle that lie in the output, whose sides are 4,096 pixels at most.
+    /// Adds the points of the rectangle that lie in the output. Its sides are 4,096 pixels at most.
     pub fn add(&mut self, rect: Rect)
         ensures points { (x y : ℕ) → x < self.old.width → y < self.old.height
             → has self.new x y ≡ (has self.old x y || in_rect (pos x) (pos y) rect) }
@@ -104,7 +104,7 @@ impl<A: Allocator> Damage<A> {
         count
     }
 
-    /// Makes it that of no points. Rows without damage are passed over.
+    /// Forgets all damage. Rows without damage are passed over.
     pub fn clear(&mut self)
         ensures empty { (x y : ℕ) → has self.new x y ≡ false }
         ensures width { self.new.width ≡ self.old.width }
@@ -130,7 +130,8 @@ impl<A: Allocator> Damage<A> {
     }
 }
 
-/// The start and the length of the first damaged run of row `y` at or after column `from`, or of its part before column `end`.
+/// The start and the length of the first damaged run of row `y` at or after column `from`, cut at
+/// column `end`.
 pub(crate) fn next_part<A: Allocator>(
     damage: &Damage<A>,
     y: u32,

@@ -111,11 +111,11 @@ impl<A: Allocator> Framebuffer<A> {
         &self.bytes
     }
 
-    /// Paints each damaged point from nothing: the background, and over it the colour of each window
-    /// that contains the point. The other points stay. It takes no memory.
+    /// Paints each damaged point from nothing: the background, and over it the colour of each
+    /// window that contains the point. The other points stay. It takes no memory.
     ///
-    /// The damage and the image have the same sides. Where a window isn't opaque at a point that its
-    /// opaque region holds, it is free what a damaged point gets.
+    /// The damage and the image have the same sides. A damaged point may get any colour if a window
+    /// isn't opaque there although its opaque region holds the point.
     pub fn paint<W: Windows>(&mut self, damage: &Damage<A>, windows: &W)
         requires wide { damage.now.width ≡ self.old.width }
         requires high { damage.now.height ≡ self.old.height }

@@ -16,10 +16,11 @@ use wl_store::Picture;
 /// How many pixels of a run are painted at a time, at most.
 pub(crate) const STRETCH: usize = 1024;
 
-/// An opaque region of more changes than this isn't asked, but the alphas are looked at: each stretch would look at all of them.
+/// An opaque region of more changes than this isn't asked, since each stretch would look at all of
+/// them. The alphas are looked at instead.
 const ASKED_CHANGES: u32 = 16;
 
-/// How far the place is from the start, where it is one of the `len` places from there on.
+/// How far the place is from the start, if it is one of the `len` places from there on.
 fn offset_in(start: i32, len: u32, place: u32) -> Option<u32>
     ensures { OffsetIn start len place result }
 {
@@ -30,7 +31,8 @@ fn offset_in(start: i32, len: u32, place: u32) -> Option<u32>
     Some(offset as u32)
 }
 
-/// Whether the window's opaque region holds each of the `count` points of its picture from (i, j) to the right, as far as it is asked.
+/// Whether the window's opaque region holds each of the `count` points of its picture from (i, j)
+/// to the right. The answer is false for a region that isn't asked.
 fn is_said_opaque<A: Allocator>(window: &Painted<'_, A>, i: u32, j: u32, count: u32) -> bool
     requires column { i < 2 ^ 31 }
     requires row { j < 2 ^ 31 }
@@ -39,9 +41,11 @@ fn is_said_opaque<A: Allocator>(window: &Painted<'_, A>, i: u32, j: u32, count: 
     window.opaque.changes() <= ASKED_CHANGES && window.opaque.covers_run(i as i32, j as i32, count)
 }
 
-/// Paints a run of pixels that starts at (x, y) with the window alone, where it hides all below it there: where its
-/// opaque region, as far as it is asked, holds each of the points, or each of them has the alpha 255, as all of xrgb8888
-/// have. Else the answer is false, and the run is to be painted otherwise.
+/// Paints a run of pixels that starts at (x, y) with the window alone, if it is opaque at each of
+/// them. It is if its opaque region is asked and holds all the points, or if all have the alpha
+/// 255, as in xrgb8888.
+///
+/// Else the answer is false, and the run is to be painted otherwise.
 pub(crate) fn hide<A: Allocator>(run: &mut [u8], x: u32, y: u32, window: &Painted<'_, A>) -> bool
     requires whole { length run.old % 4 ≡ 0 }
     requires fits { x + length run.old < 2 ^ 32 }

@@ -1,8 +1,8 @@
 //! The pixels of an output: which are to be painted again, the image, and painting windows into it.
+//! Begin with [`Damage`], the points to paint, then [`Framebuffer`], the image, and its `paint`.
+//! Which windows there are is left to who implements [`Windows`]: wl_clients.
 //!
-//! [`Damage`] is the set of points to paint, [`Framebuffer`] the image, [`Windows`] what
-//! [`Framebuffer::paint`] asks for the windows, from the lowest to the highest. [`write_ppm`] writes
-//! the image as a file.
+//! Windows are asked from the lowest to the highest. [`write_ppm`] writes the image as a file.
 #![tactic(auto)]
 
 mod copying;

@@ -12,7 +12,8 @@ use crate::windows::Windows;
 use std::alloc::Allocator;
 use wl_blend::Rgb;
 
-/// How many rows are painted together: as many as pixels of a buffer lie in one line of a processor's cache.
+/// How many rows are painted together: as many as pixels of a buffer lie in one line of a
+/// processor's cache.
 const BAND: u32 = 16;
 
 /// What an output shows: a colour, and windows over it.
@@ -22,8 +23,8 @@ pub(crate) struct Layers<'a, W: Windows> {
     pub windows: &'a W,
 }
 
-/// Paints a run of pixels that starts at (x, y) by the windows up to the highest that hides all below it there, or
-/// by the background where none does. The answer is how many windows that is.
+/// Paints a run of pixels that starts at (x, y), up to the highest window that hides all below it
+/// there. If none does, it paints the background. The answer is how many windows are done.
 fn paint_lowest<W: Windows>(run: &mut [u8], x: u32, y: u32, layers: &Layers<'_, W>) -> usize
     requires whole { length run.old % 4 ≡ 0 }
     requires fits { x + length run.old < 2 ^ 32 }
@@ -104,7 +105,8 @@ fn paint_runs<A: Allocator, W: Windows>(
     }
 }
 
-/// Paints row `y` in these columns beside the image, and puts its damaged pixels in. So the windows are asked once, and not for each run.
+/// Paints row `y` in these columns beside the image, and puts its damaged pixels in. So the windows
+/// are asked once, not once a run.
 fn paint_together<A: Allocator, W: Windows>(
     pixels: &mut [u8],
     y: u32,
@@ -183,7 +185,7 @@ fn paint_columns<A: Allocator, W: Windows>(
     }
 }
 
-/// Paints the damaged pixels of these rows, a stretch of their columns after the other.
+/// Paints the damaged pixels of these rows, one stretch of their columns after the other.
 fn paint_strips<A: Allocator, W: Windows>(
     pixels: &mut [u8],
     rows: Span,
@@ -209,7 +211,7 @@ fn paint_strips<A: Allocator, W: Windows>(
     }
 }
 
-/// Paints the damaged pixels of these rows. They are left at once where none is.
+/// Paints the damaged pixels of these rows. If none is damaged, nothing more is looked at.
 fn paint_band<A: Allocator, W: Windows>(
     pixels: &mut [u8],
     rows: Span,
@@ -232,8 +234,8 @@ fn paint_band<A: Allocator, W: Windows>(
     paint_strips(pixels, rows, damage, layers);
 }
 
-/// Paints the damaged pixels of an image with these sides. It goes by bands of rows, since a window that is turned by a quarter has the
-/// pixels of a column side by side: they are read together while they are at hand.
+/// Paints the damaged pixels of an image with these sides, by bands of rows. A window that is
+/// turned by a quarter has the pixels of a column side by side, and a band reads them together.
 pub(crate) fn paint_rows<A: Allocator, W: Windows>(
     pixels: &mut [u8],
     width: u32,

@@ -11,10 +11,10 @@ use std::simd::prelude::*;
 /// How many pixels are written together.
 const PIECE: usize = 16_384;
 
-/// Writes the framebuffer as a binary PPM image (netpbm, ppm: `P6`) whose greatest value of a channel is 255, some rows at a
-/// time. It takes no memory.
+/// Writes the framebuffer as a binary PPM image (netpbm, ppm: `P6`) with 255 as the greatest value
+/// of a channel, some rows at a time. It takes no memory.
 ///
-/// The error is the writer's; then some of the image may have been written.
+/// The error is the writer's. Some of the image may have been written then.
 pub fn write_ppm<A: Allocator, W: Write>(frame: &Framebuffer<A>, writer: &mut W) -> io::Result<()>
     ensures { OnOk result (Appends (W.contents writer.old) (W.contents writer.new)
         (image_of frame.now.width frame.now.height frame.now.pixels)) }
@@ -49,7 +49,8 @@ fn write_piece<W: Write>(pixels: &[u8], writer: &mut W) -> io::Result<()>
     writer.write_all(&packed[..3 * (pixels.len() / 4)])
 }
 
-/// Puts red, green and blue of each pixel to the front of `packed`. Up to four bytes behind them are written too.
+/// Puts red, green and blue of each pixel to the front of `packed`. Up to four bytes behind them
+/// are written too.
 fn pack(pixels: &[u8], packed: &mut [u8])
     requires { 3 * (length pixels.now / 4) + 4 ≤ length packed.old }
     ensures { take (3 * (length pixels.now / 4)) packed.new ≡ colors (length pixels.now / 4) pixels.now }
@@ -61,7 +62,8 @@ fn pack(pixels: &[u8], packed: &mut [u8])
     pack_rest(pixels, packed, 4 * fours);
 }
 
-/// Puts red, green and blue of the four pixels from pixel `first` on behind those of the pixels before, and four bytes more.
+/// Puts red, green and blue of the four pixels from pixel `first` on behind those of the pixels
+/// before. Four bytes behind them are written too.
 fn pack_four(pixels: &[u8], packed: &mut [u8], first: usize)
     requires there { 4 * (first + 4) ≤ length pixels.now }
     requires room { 3 * first + 16 ≤ length packed.old }

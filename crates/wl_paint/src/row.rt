@@ -6,8 +6,8 @@ use crate::words::{has_mark, mark_around, run_from, unmark, unmarked};
 use std::alloc::{AllocError, Allocator};
 use std::marker::Model;
 
-/// Which points of one row are damaged, with their number. Each is a bit of a word. It knows columns all of which are damaged:
-/// those are not marked again.
+/// Which points of one row are damaged, a bit each, and how many. It remembers columns that are all
+/// damaged: they aren't marked again.
 #[derive(Drop)]
 pub(crate) struct Row<A: Allocator> {
     words: Vec<u64, A>,
@@ -66,7 +66,7 @@ impl<A: Allocator> Row<A> {
         self.count
     }
 
-    /// A row without damage is passed over.
+    /// Forgets all damage. A row without damage is passed over.
     pub(crate) fn clear(&mut self)
         ensures empty { (x : ℕ) → marked self.new x ≡ false }
         ensures width { length self.new ≡ length self.old }

@@ -1,4 +1,5 @@
-//! The points of a window's picture over a stretch of one row: lent as the bytes that they are, or read where they don't lie side by side.
+//! The points of a window's picture over a stretch of one row. They are lent as bytes, or read one
+//! by one if they don't lie side by side.
 ghost use Rattle.std.specs.Prelude.{◌≡◌, ◌<◌, ◌≤◌, ◌+◌, ◌*◌, ◌/◌, ◌%◌, ℕ, IsTrue, length};
 ghost use Rattle.wl_store.specs.Layout.{argb_of};
 ghost use Rattle.wl_store.specs.Picture.{color_at, surface_height, surface_width};
@@ -10,8 +11,8 @@ use crate::layer::STRETCH;
 use wl_blend::{blend_run, is_opaque_run};
 use wl_store::{Format, Picture};
 
-/// Writes points over a run of pixels where all of them are opaque, and says whether they are. Where they aren't, the run is to be
-/// painted otherwise.
+/// Writes points over a run of pixels if all of them are opaque, and says whether they are. If not,
+/// the run is to be painted otherwise.
 fn copy_opaque_run(run: &mut [u8], points: &[u8], format: Format) -> bool
     requires as_many { length run.old ≡ length points.now }
     requires whole { length run.old % 4 ≡ 0 }
@@ -24,7 +25,7 @@ fn copy_opaque_run(run: &mut [u8], points: &[u8], format: Format) -> bool
     true
 }
 
-/// The same of the points of the picture from (i, j) to the right, which are read.
+/// The same for the points of the picture from (i, j) to the right, read one by one.
 fn copy_opaque_read(run: &mut [u8], picture: &Picture<'_>, i: u32, j: u32) -> bool
     requires whole { length run.old % 4 ≡ 0 }
     requires short { length run.old ≤ 4 * STRETCH }
@@ -38,8 +39,8 @@ fn copy_opaque_read(run: &mut [u8], picture: &Picture<'_>, i: u32, j: u32) -> bo
     copy_opaque_run(run, points, format)
 }
 
-/// Writes the points of the picture from (i, j) to the right over a run of pixels where all of them are opaque, and says whether
-/// they are. Where they aren't, the run is to be painted otherwise.
+/// Writes the points of the picture from (i, j) to the right over a run of pixels if all of them
+/// are opaque, and says whether they are. If not, the run is to be painted otherwise.
 pub(crate) fn copy_opaque(run: &mut [u8], picture: &Picture<'_>, i: u32, j: u32) -> bool
     requires whole { length run.old % 4 ≡ 0 }
     requires short { length run.old ≤ 4 * STRETCH }
@@ -54,7 +55,8 @@ pub(crate) fn copy_opaque(run: &mut [u8], picture: &Picture<'_>, i: u32, j: u32)
     }
 }
 
-/// Writes the points of the picture from (i, j) to the right, which are read, over a run of pixels, as if all were opaque.
+/// Writes the points of the picture from (i, j) to the right, read one by one, over a run of
+/// pixels, as if all were opaque.
 fn copy_colors_read(run: &mut [u8], picture: &Picture<'_>, i: u32, j: u32)
     requires whole { length run.old % 4 ≡ 0 }
     requires short { length run.old ≤ 4 * STRETCH }
@@ -69,7 +71,8 @@ fn copy_colors_read(run: &mut [u8], picture: &Picture<'_>, i: u32, j: u32)
     blend_run(run, points, Format::Xrgb8888);
 }
 
-/// Writes the points of the picture from (i, j) to the right over a run of pixels, as if all were opaque.
+/// Writes the points of the picture from (i, j) to the right over a run of pixels, as if all were
+/// opaque.
 pub(crate) fn copy_colors(run: &mut [u8], picture: &Picture<'_>, i: u32, j: u32)
     requires whole { length run.old % 4 ≡ 0 }
     requires short { length run.old ≤ 4 * STRETCH }
@@ -85,7 +88,7 @@ pub(crate) fn copy_colors(run: &mut [u8], picture: &Picture<'_>, i: u32, j: u32)
     }
 }
 
-/// Lays the points of the picture from (i, j) to the right, which are read, over a run of pixels.
+/// Lays the points of the picture from (i, j) to the right, read one by one, over a run of pixels.
 fn lay_colors_read(run: &mut [u8], picture: &Picture<'_>, i: u32, j: u32)
     requires whole { length run.old % 4 ≡ 0 }
     requires short { length run.old ≤ 4 * STRETCH }

@@ -26,7 +26,7 @@ impl Span {
         self.end.saturating_sub(self.first)
     }
 
-    /// Both, where they touch, else the longer of the two.
+    /// Both joined, if they touch, else the longer of the two.
     pub(crate) fn joined(self, other: Span) -> Span
         ensures { (at : ℕ) → is_between result.first result.end at ≡ true
             → (is_between self.first self.end at || is_between other.first other.end at) ≡ true }
@@ -72,7 +72,7 @@ impl Block {
         self.columns.has_all(other.columns) && self.rows.has_all(other.rows)
     }
 
-    /// The one of more points.
+    /// The one that has more points.
     pub(crate) fn larger(self, other: Block) -> Block
         ensures { (x y : ℕ) → is_in_block x y result ≡ true → (is_in_block x y self || is_in_block x y other) ≡ true }
     {
@@ -88,7 +88,7 @@ impl Block {
     }
 }
 
-/// The place, or the nearest from 0 to `size`.
+/// The place, held to 0 to `size`.
 fn held_to(place: i64, size: u32) -> u32
     ensures same { (at : ℕ) → at < size → nat_lt at result ≡ int_lt (pos at) place }
     ensures within { result ≤ size }
@@ -134,7 +134,8 @@ fn end_from(start: i32, len: u32, at: u32) -> i64
     i64::from(start) + i64::from(len) - i64::from(at)
 }
 
-/// The part of the `count` places from `at` on that lies in a span, by its start and its end, counted from `at`.
+/// The part of the `count` places from `at` on that lies in a span, by its start and its end,
+/// counted from `at`.
 pub(crate) fn part_in(start: i32, len: u32, at: u32, count: u32) -> (u32, u32)
     ensures same { (i : ℕ) → i < count → in_span start (pos len) (pos (at + i)) ≡ is_between result.0 result.1 i }
     ensures order { result.0 ≤ result.1 }

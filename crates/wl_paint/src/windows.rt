@@ -6,8 +6,9 @@ use std::alloc::Allocator;
 use wl_geom::Region;
 use wl_store::Picture;
 
-/// A window that is lent to be painted: a picture, where its top left point lies in the output, and
-/// the points of the picture that are said to be opaque, counted from that point.
+/// A window that is lent to be painted. It has a picture and the place of its top left point in the
+/// output, in pixels. Its opaque region holds the points of the picture that are said to be opaque,
+/// counted from that point.
 #[derive(Drop)]
 pub struct Painted<'a, A: Allocator> {
     pub x: i32,

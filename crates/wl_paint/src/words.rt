@@ -6,7 +6,7 @@ ghost use Rattle.wl_paint.specs.Words.{IsWhole, is_marked, is_set};
 use crate::span::Span;
 use std::alloc::{AllocError, Allocator};
 
-/// Words for so many points, of which none is marked.
+/// Words for this many points, with no point marked.
 pub(crate) fn unmarked<A: Allocator>(alloc: A, points: u32) -> Result<Vec<u64, A>, AllocError>
     requires { points ≤ 4096 }
     ensures sized { IfOk result (λ words. points ≤ 64 * length words.items) }
@@ -127,7 +127,8 @@ fn part_between(whole: Span, first: u32, end: u32) -> (u32, u32)
     (low, high)
 }
 
-/// Marks the points from `first` up to `end`, of which those of `whole` are marked already, and says how many more are marked.
+/// Marks the points from `first` up to `end`, and says how many more are marked. Those of `whole`
+/// are marked already.
 pub(crate) fn mark_around(words: &mut [u64], first: u32, end: u32, whole: Span) -> u32
     requires order { first ≤ end }
     requires within { end ≤ 64 * length words.old }
@@ -141,7 +142,7 @@ pub(crate) fn mark_around(words: &mut [u64], first: u32, end: u32, whole: Span) 
     before + mark_span(words, high, end)
 }
 
-/// The word, or, where bits of 0 are wanted, its complement.
+/// The word, or its complement if bits of 0 are wanted.
 fn wanted_bits(word: u64, wanted: bool) -> u64
     ensures { (i : ℕ) → i < 64 → is_set result i ≡ cond wanted (is_set word i) (not (is_set word i)) }
 {
@@ -159,7 +160,8 @@ fn lowest_bit(word: u64, low: u32) -> u32
     (word & (u64::MAX << low)).trailing_zeros()
 }
 
-/// The first place of word `k` at or after `from` whose mark is `wanted`, or the place after the word's last.
+/// The first place of word `k` at or after `from` whose mark is `wanted`, or the place after the
+/// word's last.
 fn find_in_word(words: &[u64], k: usize, from: u32, wanted: bool) -> u32
     requires within { k < length words.now }
     requires starts { from < 64 * k + 64 }
@@ -193,7 +195,8 @@ fn find(words: &[u64], from: u32, wanted: bool) -> u32
     64 * words.len() as u32
 }
 
-/// The start and the length of the first run of marks at or after `from`, of the first `width` points.
+/// The start and the length of the first run of marks at or after `from`, of the first `width`
+/// points.
 pub(crate) fn run_from(words: &[u64], width: u32, from: u32) -> Option<(u32, u32)>
     requires narrow { length words.now ≤ 64 }
     requires within { width ≤ 64 * length words.now }

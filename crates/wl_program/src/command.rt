@@ -15,10 +15,10 @@ use std::alloc::{AllocError, Global};
 use thiserror::Error;
 use wl_recording::number;
 
-/// The greatest number of turns.
+/// How many turns may be asked for.
 const MAX_TURNS: u32 = 1_000_000;
 
-/// What is asked.
+/// What the command line asks.
 #[derive(Clone, Copy, Debug, PartialEq, Eq)]
 pub enum Asked<'a> {
     /// A recording is to be played.
@@ -42,9 +42,9 @@ pub struct Replay<'a> {
 pub struct Serve<'a> {
     /// The path of the socket that clients connect to.
     pub socket: &'a str,
-    /// How many turns are taken, 1 to 1,000,000. Where it isn't said, as many as can be counted.
+    /// How many turns are taken, 1 to 1,000,000. If it isn't said, as many as can be counted.
     pub turns: Option<u32>,
-    /// How often turns begin, where it is said.
+    /// How often turns begin, if it is said.
     pub rate: Option<Rate>,
     pub size: Size,
     /// The folder of the side files.
@@ -94,8 +94,12 @@ impl From<clap::Error> for CommandError {
 
 /// What these words ask, of which the first is the program's name.
 ///
-/// `Usage` is clap's answer where it refuses the words, or shows its help or the version; `Fault::Rate` is for a rate that is none,
-/// `Fault::Size` for a size that is none, and `Fault::Memory` where memory runs out.
+/// # Errors
+///
+/// - `Usage`: clap refuses the words, or shows its help or the version.
+/// - `Fault::Rate`: the rate isn't one.
+/// - `Fault::Size`: the size isn't one.
+/// - `Fault::Memory`: memory runs out.
 pub fn parse<'a>(alloc: Global, words: &'a [String]) -> Result<Asked<'a>, CommandError>
     ensures { MatchResult result (Asks (map string_bytes words.entry.now)) (IsRefused (map string_bytes words.entry.now)) }
 {
@@ -107,7 +111,7 @@ pub fn parse<'a>(alloc: Global, words: &'a [String]) -> Result<Asked<'a>, Comman
     }
 }
 
-/// Whether a word says how often turns begin, so that it needn't be said how many are taken.
+/// Whether a word says how often turns begin. Then it needn't be said how many are taken.
 fn is_paced(words: &[String]) -> bool
     ensures { result ≡ is_paced (map string_bytes words.now) }
 {
@@ -187,7 +191,8 @@ fn serve_command<'a>(alloc: Global, is_paced: bool) -> Result<Command<'a>, Alloc
         .arg(record_option(alloc))
 }
 
-/// The subcommand with the options of its output: its size, the file of its images, and the folder of its side files.
+/// The subcommand with the options of its output: its size, the file of its images, and the folder
+/// of its side files.
 fn with_output<'a>(alloc: Global, subcommand: Command<'a>) -> Result<Command<'a>, AllocError>
     ensures { IfOk result (λ r. app_of r ≡ with_output (app_of subcommand.entry)) }
 {
@@ -356,7 +361,7 @@ fn serve_of<'a>(matches: &ArgMatches<'a>) -> Result<Serve<'a>, CommandError>
     })
 }
 
-/// How often turns begin, where these matches say it.
+/// How often turns begin, if these matches say it.
 fn rate_of(matches: &ArgMatches<'_>) -> Result<Option<Rate>, CommandError>
     ensures asked { IfOk result (λ rate. IsRate (first_value (found_of matches.now) (codes "rate")) (option_map (λ r. r.hertz) rate)) }
     ensures faulty { IfErr result (IsFaulty (first_value (found_of matches.now))) }
@@ -370,7 +375,7 @@ fn rate_of(matches: &ArgMatches<'_>) -> Result<Option<Rate>, CommandError>
     }
 }
 
-/// How many turns are taken, where these matches say it.
+/// How many turns are taken, if these matches say it.
 fn turns_of(matches: &ArgMatches<'_>) -> Option<u32>
     ensures { AreTurns (first_value (found_of matches.now) (codes "turns")) result }
 {
@@ -380,7 +385,7 @@ fn turns_of(matches: &ArgMatches<'_>) -> Option<u32>
     }
 }
 
-/// The number of turns that a word spells, which clap let pass. It may begin with a `+`.
+/// The number of turns that a word spells, which clap accepted. It may begin with a `+`.
 fn turns_in(word: &str) -> u32
     ensures within { (1 ≤ result) × (result ≤ 1000000) }
     ensures spelt { (n : ℕ) → number_of word.now ≡ Some n → 1 ≤ n → n ≤ 1000000 → result ≡ n }

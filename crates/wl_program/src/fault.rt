@@ -38,7 +38,7 @@ pub enum Fault {
 }
 
 impl Fault {
-    /// How the program ends for it.
+    /// How the program ends when it failed so.
     pub fn status(self) -> Status
         ensures { result ≡ status_of self }
     {

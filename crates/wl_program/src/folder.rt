@@ -11,8 +11,8 @@ use std::marker::Model;
 use std::rt::Files;
 use wl_recording::{SideFault, SideFiles};
 
-/// The files of a folder, of which one is open at a time. It is seen as the folder's path, whether a file is open, whether there was no
-/// memory to open one, and how many faults there were.
+/// The files of a folder, of which one is open at a time. Contracts see the folder's path, whether
+/// a file is open, whether there was no memory to open one, and how many calls failed.
 #[derive(Drop)]
 pub struct Folder<'a, R: Files + Alloc> {
     rt: &'a R,
@@ -47,7 +47,8 @@ impl<'a, R: Files + Alloc> Folder<'a, R> {
         }
     }
 
-    /// Whether the last fault of `open` was that there was no memory for it, and none of the folder or of its files.
+    /// Whether the last fault of `open` was that there was no memory for it, and not one of the
+    /// folder or of its files.
     pub fn lacks_memory(&self) -> bool
         ensures { result ≡ self.now.lacks_memory }
     {
@@ -73,7 +74,7 @@ impl<'a, R: Files + Alloc> Folder<'a, R> {
     }
 }
 
-/// Opens a file, to read from this byte on.
+/// Opens a file, to be read from this byte on.
 fn open_at<R: Files>(rt: &R, path: &str, from: u32) -> io::Result<R::File> {
     let mut file = File::open(rt, path)?;
     if from > 0 {

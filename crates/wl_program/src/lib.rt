@@ -1,5 +1,6 @@
-//! All of the program but its `main`: the command line, the side files of a folder, the statuses by which it ends; a recording is played or clients
-//! are served, as the command line asks.
+//! All of the program but its `main`: the command line, the side files of a folder, and the
+//! statuses by which it ends. Begin with [`run_program`]. Playing recordings is left to wl_replay,
+//! and the turns of a server to wl_server.
 #![tactic(auto)]
 
 mod command;

@@ -1,4 +1,4 @@
-//! When turns begin, and which time they have.
+//! When turns begin, and at which time.
 
 ghost use Rattle.std.specs.Prelude.{◌≡◌, ◌%◌, ◌^◌};
 ghost use Rattle.wl_program.specs.Pace.{count_of, hertz_of, time_of};
@@ -10,9 +10,10 @@ use std::time::{Clock, Duration, Instant};
 /// How many turns are taken, and how often they begin.
 #[derive(Clone, Copy)]
 pub struct Pace {
-    /// How many. Where it isn't said, as many as can be counted: 2^64 - 1.
+    /// How many. If it isn't said, as many as can be counted: 2^64 - 1.
     pub turns: Option<u32>,
-    /// How often they begin at most. Where it isn't said, each begins as soon as the one before is over.
+    /// How often they begin at most. If it isn't said, each begins as soon as the one before is
+    /// over.
     pub rate: Option<Rate>,
 }
 
@@ -27,8 +28,8 @@ impl Pace {
         }
     }
 
-    /// The time of the turn of this number, from 1: its number, or at a rate the milliseconds that so many turns take, rounded down. It is
-    /// modulo 2^32.
+    /// The time of the turn of this number, from 1, modulo 2^32. It is the number, or at a rate the
+    /// milliseconds that this many turns take, rounded down.
     pub(crate) fn time_of(self, number: u64) -> u32
         ensures { result ≡ time_of (hertz_of self.rate) number }
     {
@@ -60,14 +61,14 @@ const QUIET: u32 = 100;
 #[derive(Clone, Copy)]
 pub(crate) struct Timer {
     period: Option<Duration>,
-    /// When the next turn is due. None where it is due at once.
+    /// When the next turn is due. `None` if it is due at once.
     due: Option<Instant>,
     /// How many short turns in a row found nothing to do.
     quiet: u32,
 }
 
 impl Timer {
-    /// The first turn is due at once.
+    /// A timer by which the first turn is due at once.
     pub(crate) fn new(rate: Option<Rate>) -> Timer {
         Timer {
             period: period_of(rate),
@@ -76,11 +77,13 @@ impl Timer {
         }
     }
 
-    /// Whether the next turn is due, which then begins; else a short turn is to be taken. Before that it sleeps: a millisecond, but not where
-    /// the last one found something to do; and until the next turn is due where a hundred in a row found nothing.
+    /// Whether the next turn is due, which then begins; else a short turn is to be taken. Before
+    /// that it sleeps a millisecond, unless the last short turn found something to do. If a hundred
+    /// in a row found nothing, it sleeps until the next turn is due.
     ///
-    /// The turn after it is due a period after this one was; or a period after this one begins, where it is later than that, so that turns
-    /// that were missed aren't made up for. Without a rate each is due at once.
+    /// The turn after it is due a period after this one was due, or a period after this one begins,
+    /// if that is later. So turns that were missed aren't made up for. Without a rate each turn is
+    /// due at once.
     pub(crate) fn is_due<C: Clock>(&mut self, clock: &C, is_busy: bool) -> bool {
         let Some(period) = self.period else {
             return true;
@@ -104,7 +107,8 @@ impl Timer {
         }
     }
 
-    /// How long it is until the next turn is due. None where it is, and where the clock tells no time.
+    /// How long it is until the next turn is due. `None` if it is due, or if the clock tells no
+    /// time.
     fn left<C: Clock>(self, clock: &C) -> Option<Duration> {
         let due = self.due?;
         let Ok(now) = Instant::now(clock) else {
@@ -118,13 +122,14 @@ impl Timer {
     }
 }
 
-/// From one turn to the next, at a rate.
+/// The time from one turn to the next, at a rate.
 fn period_of(rate: Option<Rate>) -> Option<Duration> {
     let rate = rate?;
     Some(Duration::from_nanos(1_000_000_000 / u64::from(rate.hertz)))
 }
 
-/// Sleeps until a turn is due, and answers when the next one is. Where the clock tells no time, it sleeps a period.
+/// Sleeps until a turn is due, and answers when the next one is. If the clock tells no time, it
+/// sleeps a period.
 fn sleep_until<C: Clock>(clock: &C, due: Option<Instant>, period: Duration) -> Option<Instant> {
     let Ok(now) = Instant::now(clock) else {
         thread::sleep(clock, period);

@@ -13,10 +13,12 @@ use std::rt::Files;
 use std::{fs, io};
 use wl_recording::{LINE_LIMIT, LineError, PointerLine, pointer_line, read_line};
 
-/// Reads the lines of the pointer's file, where there is one.
+/// Reads the lines of the pointer's file, if there is one.
 ///
-/// `Read` is answered where it can't be opened or read, `BadLine` for the first line that is none of such a file, and `Memory` when it is out of
-/// memory.
+/// # Errors
+///
+/// `Read` if the file can't be opened or read, `BadLine` for the first bad line, and `Memory` out
+/// of memory.
 pub(crate) fn read_pointer<F: Files + AllocGlobal, A: Allocator + Copy>(
     files: &F,
     alloc: A,
@@ -52,7 +54,7 @@ fn opening_failed(error: io::Error) -> Fault
     }
 }
 
-/// Reads all lines. More than can be numbered are out of memory.
+/// Reads all lines. More than can be numbered count as out of memory.
 fn read_lines<A: Allocator + Copy, R: BufRead>(
     alloc: A,
     reader: &mut R,
@@ -71,7 +73,7 @@ fn read_lines<A: Allocator + Copy, R: BufRead>(
     Err(Fault::Memory)
 }
 
-/// Reads the next line, which has this number. None at the end.
+/// Reads the next line, which has this number. `None` at the end.
 fn next_line<A: Allocator, R: BufRead>(
     number: u32,
     reader: &mut R,
@@ -89,7 +91,8 @@ fn next_line<A: Allocator, R: BufRead>(
     }
 }
 
-/// Reads the next line, which has this number, without its line feed. False at the end.
+/// Reads the next line, which has this number, without its line feed. The answer is false at the
+/// end.
 fn read_text<A: Allocator, R: BufRead>(
     number: u32,
     reader: &mut R,

@@ -21,9 +21,9 @@ use wl_replay::{Config, Rgb};
 /// The background of every output.
 pub(crate) const BLACK: Rgb = Rgb { r: 0, g: 0, b: 0 };
 
-/// Does what the words ask, of which the first is the program's name, and answers how the program ends. A recording is read from
-/// `input` and told of on `output`, on which serving is told of too; help and faults are told on `terminal`, and the session's memory comes
-/// from `alloc`.
+/// Does what the words ask, of which the first is the program's name, and answers how the program
+/// ends. A recording is read from `input`, and reports go to `output`. Help and faults go to
+/// `terminal`. The session's memory comes from `alloc`.
 pub fn run_program<
     T: Print + Eprint,
     F: Files + Net + Clock + AllocGlobal,
@@ -47,7 +47,7 @@ pub fn run_program<
     }
 }
 
-/// Prints what is to be said of the usage.
+/// Prints what clap says of the usage.
 fn show<T: Print + Eprint>(terminal: &T, error: clap::Error) -> Status
     ensures { IsToldBy (kind_of error) result }
 {
@@ -87,7 +87,8 @@ fn play<F: Files + AllocGlobal, A: Allocator + Copy, I: BufRead, W: Write>(
     }
 }
 
-/// Why a recording wasn't played to its end. Where there was no memory to open a side file, that is why.
+/// Why a recording wasn't played to its end. If there was no memory to open a side file, that is
+/// why.
 fn fault_of(error: ReplayError, lacks_memory: bool) -> Fault
     ensures { result ≡ fault_with lacks_memory error }
 {

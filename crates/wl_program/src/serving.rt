@@ -1,4 +1,4 @@
-//! Clients are served.
+//! Serving clients.
 
 ghost use Rattle.std.specs.Prelude.{◌≡◌, ◌⊎◌, ℕ, IfErr, IfOk, IfSome, OnErr, OnOk, is_some};
 ghost use Rattle.spec_desktop.specs.Desktop.{empty};
@@ -31,7 +31,7 @@ use wl_recording::SideFiles;
 use wl_replay::Config;
 use wl_server::{Connections, Hub, Recorded, Service, Session, Shares, SocketHub, Viewing};
 
-/// Serves the clients that connect to a socket, which is made at its path and stays there.
+/// Serves the clients that connect to a socket. It is made at its path and stays there.
 pub(crate) fn serve<'a, F: Files + Net + Clock + AllocGlobal, A: Allocator + Copy, W: Write>(
     files: &'a F,
     alloc: A,
@@ -180,8 +180,9 @@ pub fn serve_on<C: Clock, A: Allocator + Copy, R: Write, H: Hub, S: SideFiles, W
     Ok(())
 }
 
-/// Serves the clients of a hub as [`serve_on`] does, with a viewer of another hub: takes the turns 1 to as many as the schedule's pace has, one after
-/// another, each at its time. Whoever copies each whole update holds the frame of the tick at its time.
+/// Serves the clients of a hub as [`serve_on`] does, with a viewer of another hub. It takes the
+/// turns 1 to as many as the schedule's pace has, one after another, each at its time. Whoever
+/// copies each whole update holds the frame of the tick at its time.
 pub fn serve_viewed<
     C: Clock,
     A: Allocator + Copy,

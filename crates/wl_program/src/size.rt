@@ -17,7 +17,7 @@ pub struct Size {
 }
 
 impl Size {
-    /// Two numbers from 1 to 4,096, parted by the first `x`. Leading zeros are free.
+    /// Two numbers from 1 to 4,096, with the first `x` between. Leading zeros are free.
     pub fn parse(text: &str) -> Option<Size>
         ensures { option_map (λ size. (size.width, size.height)) result ≡ size_of text.now }
     {

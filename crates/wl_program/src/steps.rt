@@ -24,7 +24,7 @@ use wl_server::{
     short_turn, short_turn_viewed, turn, turn_viewed,
 };
 
-/// The most short turns before a turn.
+/// How many short turns are taken before a turn, at most.
 const SHORT_TURNS: u32 = 1_000_000;
 
 /// Takes a turn at this time, and at a rate first short turns until it is due.
@@ -290,7 +290,8 @@ fn take_short_viewed_turns<
     Ok(())
 }
 
-/// Takes a short turn with a viewer, and writes what it reports. True where it found something to do.
+/// Takes a short turn with a viewer, and writes its report. The answer is true if it found
+/// something to do.
 fn take_short_viewed_turn<
     A: Allocator + Copy,
     R: Write,
@@ -360,7 +361,8 @@ fn take_viewed_turn<
     }
 }
 
-/// Takes a turn with a viewer at this time whose clients share the server's time, and writes what it reports.
+/// Takes a turn with a viewer at this time, in milliseconds, in which clients share the server's
+/// time, and writes its report.
 fn take_shared_viewed_turn<
     A: Allocator + Copy,
     R: Write,

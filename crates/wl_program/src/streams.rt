@@ -1,4 +1,4 @@
-//! The file of the images, and what is still to be written.
+//! The file of the images, and flushing what is still to be written.
 
 ghost use Rattle.std.specs.Prelude.{◌≡◌, ◌⊎◌, IfErr};
 ghost use Rattle.std.specs.Io.KnownBytes.{Keeps};
@@ -9,7 +9,7 @@ use std::io::{BufWriter, ErrorKind, Write};
 use std::rt::Files;
 use std::{fs, io};
 
-/// Opens the file of the images, where there is to be one.
+/// Opens the file of the images, if there is to be one.
 pub(crate) fn create<F: Files + AllocGlobal>(
     files: &F,
     path: Option<&str>,
@@ -38,7 +38,7 @@ fn opening_failed(error: io::Error) -> Fault
     }
 }
 
-/// Writes what is still to be written.
+/// Flushes what is still to be written.
 pub(crate) fn flush<W: Write, P: Write>(output: &mut W, ppm: &mut Option<P>) -> Result<(), Fault>
     ensures kept { Keeps (W.contents output.old) (W.contents output.new) }
     ensures images { Keeps (images_in P.contents ppm.old) (images_in P.contents ppm.new) }

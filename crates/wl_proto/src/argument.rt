@@ -7,7 +7,7 @@ use crate::Interface;
 pub struct ObjectArg {
     /// The id of the object; 0 for the null object.
     pub id: u32,
-    /// The interface that it has to be of.
+    /// The interface that the object has to have.
     pub interface: Interface,
     /// The object may be null.
     pub nullable: bool,
@@ -41,7 +41,7 @@ impl ObjectArg {
 #[derive(Clone, Copy, Debug, PartialEq, Eq)]
 pub struct NewId {
     pub id: u32,
-    /// The interface of the object; none where the request names it by a string, as wl_registry.bind, or
-    /// where it isn't served, as that of wl_seat.get_keyboard.
+    /// The interface of the object. `None` if the request names it by a string, as
+    /// wl_registry.bind, or if it isn't served, as that of wl_seat.get_keyboard.
     pub interface: Option<Interface>,
 }

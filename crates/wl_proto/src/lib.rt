@@ -1,9 +1,10 @@
-//! The messages of the protocol (wayland.xml, xdg-shell.xml): which interfaces, requests and events there are, and which bytes
-//! spell them.
+//! The messages of the protocol (wayland.xml, xdg-shell.xml): which interfaces, requests and events
+//! there are, and which bytes spell them. Begin with [`decode`] and [`encode`]; the table of
+//! messages is specs/Table.antt. What a request does is left to wl_client and wl_requests.
 //!
-//! The table of messages stands in specs/Table.antt. A request is decoded exactly where the table spells one at
-//! the version of the object it is sent to; numbers that no enum of the protocol has are let through. An object
-//! argument is an id, 0 for the null object; a new id is an id too.
+//! The version of an object says which of its requests the table spells. Numbers that no enum of
+//! the protocol has are let through. An object argument is an id, 0 for the null object; a new id
+//! is an id too.
 #![tactic(auto)]
 
 ghost use Rattle.std.specs.Prelude.{◌≡◌, ◌↔◌, List, length, None, IfOk, IfSome, IsOkAnd, OnOk, IsErrOf};
@@ -66,13 +67,13 @@ pub use xdg_surface::{XdgSurfaceEvent, XdgSurfaceRequest};
 pub use xdg_toplevel::{XdgToplevelEvent, XdgToplevelRequest};
 pub use xdg_wm_base::XdgWmBaseRequest;
 
-/// Decodes a request to an object of an interface at a version, from the opcode and the bytes of its arguments.
-/// Strings are borrowed from these.
+/// Decodes a request, from the interface and version of the object that it is sent to, the opcode,
+/// and the bytes of its arguments. Its strings are borrowed from these.
 ///
 /// # Errors
 ///
-/// `NoMethod` where the interface has no such request at that version, and else `BadArgs` where the bytes
-/// spell no arguments of it.
+/// `NoMethod` if the interface has no such request at that version, else `BadArgs` if the bytes
+/// don't spell its arguments.
 pub fn decode<'a>(
     interface: Interface,
     version: u32,
@@ -95,7 +96,7 @@ pub fn decode<'a>(
 ///
 /// # Errors
 ///
-/// `TooLong` where it would have more than 65,532 bytes, `Memory` where there is no room for it. Either
+/// `TooLong` if it would have more than 65,532 bytes, `Memory` if there is no room for it. Either
 /// leaves the bytes as they were.
 pub fn encode<A: Allocator>(event: &Event, out: &mut Vec<u8, A>) -> Result<(), PutError>
     ensures exact { Puts event.now.object (event_message event.now.body) result out.old.items out.new.items }
@@ -107,9 +108,10 @@ pub fn encode<A: Allocator>(event: &Event, out: &mut Vec<u8, A>) -> Result<(), P
     event::write(object, &event.body, out)
 }
 
-/// The size in bytes of an event's message, its header included: how many bytes `encode` would append.
+/// The size in bytes of an event's message, the header included: how many bytes `encode` would
+/// append.
 ///
-/// `None` where there would be more than 65,532, which `encode` refuses as `TooLong`.
+/// `None` if there would be more than 65,532, which `encode` refuses as `TooLong`.
 pub fn encoded_size(event: &Event) -> Option<u16>
     ensures exact { HasSize (event_message event.now.body) result }
 

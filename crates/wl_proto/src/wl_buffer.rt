@@ -1,4 +1,4 @@
-//! The messages of wl_buffer.
+//! The messages of wl_buffer: pixels that a client attaches to a surface.
 
 ghost use Rattle.wl_proto.specs.Spelling.{Gives, decoded, Puts, HasSize};
 ghost use Rattle.wl_proto.specs.Messages.{wl_buffer_request, wl_buffer_event};

@@ -1,4 +1,4 @@
-//! The messages of wl_callback.
+//! The messages of wl_callback: a notice, given once, that something is done.
 
 ghost use Rattle.wl_proto.specs.Spelling.{Puts, HasSize};
 ghost use Rattle.wl_proto.specs.Messages.{wl_callback_event};

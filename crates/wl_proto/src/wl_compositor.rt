@@ -1,4 +1,4 @@
-//! The messages of wl_compositor.
+//! The messages of wl_compositor, which makes surfaces and regions.
 
 ghost use Rattle.std.specs.Prelude.{◌≡◌};
 ghost use Rattle.wl_proto.specs.Spelling.{Gives, decoded};

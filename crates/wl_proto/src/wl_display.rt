@@ -1,4 +1,4 @@
-//! The messages of wl_display.
+//! The messages of wl_display, the object with which each connection begins.
 
 ghost use Rattle.std.specs.Prelude.{◌≡◌};
 ghost use Rattle.wl_proto.specs.Spelling.{Gives, decoded, Puts, HasSize};

@@ -1,4 +1,4 @@
-//! The messages of wl_output.
+//! The messages of wl_output, which describes the output that surfaces are shown on.
 
 ghost use Rattle.wl_proto.specs.Spelling.{Puts, HasSize};
 ghost use Rattle.wl_proto.specs.Messages.{wl_output_event};

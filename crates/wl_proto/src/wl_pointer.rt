@@ -1,4 +1,4 @@
-//! The messages of wl_pointer.
+//! The messages of wl_pointer, which tells a client of the pointer over its surfaces.
 
 ghost use Rattle.std.specs.Prelude.{◌≡◌, flat_map, option_to_list};
 ghost use Rattle.wl_proto.specs.Spelling.{Gives, decoded, Puts, HasSize};

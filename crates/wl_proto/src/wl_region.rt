@@ -1,4 +1,4 @@
-//! The messages of wl_region.
+//! The messages of wl_region: an area of a surface, made from rectangles.
 
 ghost use Rattle.wl_proto.specs.Spelling.{Gives, decoded};
 ghost use Rattle.wl_proto.specs.Messages.{wl_region_request};

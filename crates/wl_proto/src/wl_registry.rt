@@ -1,4 +1,4 @@
-//! The messages of wl_registry.
+//! The messages of wl_registry, which announces the globals and binds objects to them.
 
 ghost use Rattle.std.specs.Prelude.{◌≡◌};
 ghost use Rattle.wl_proto.specs.Spelling.{Gives, decoded, Puts, HasSize};

@@ -1,4 +1,4 @@
-//! The messages of wl_seat.
+//! The messages of wl_seat: a group of input devices, which makes their objects.
 
 ghost use Rattle.std.specs.Prelude.{◌≡◌};
 ghost use Rattle.wl_proto.specs.Spelling.{Gives, decoded, Puts, HasSize};

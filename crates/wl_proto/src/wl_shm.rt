@@ -1,4 +1,4 @@
-//! The messages of wl_shm.
+//! The messages of wl_shm, which announces pixel formats and makes pools of shared memory.
 
 ghost use Rattle.std.specs.Prelude.{◌≡◌};
 ghost use Rattle.wl_proto.specs.Spelling.{Gives, decoded, Puts, HasSize};

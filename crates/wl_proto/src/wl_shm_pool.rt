@@ -1,4 +1,4 @@
-//! The messages of wl_shm_pool.
+//! The messages of wl_shm_pool: shared memory, in which a client makes buffers.
 
 ghost use Rattle.std.specs.Prelude.{◌≡◌};
 ghost use Rattle.wl_proto.specs.Spelling.{Gives, decoded};

@@ -1,4 +1,4 @@
-//! The messages of wl_subcompositor.
+//! The messages of wl_subcompositor, which makes a surface a subsurface of another.
 
 ghost use Rattle.std.specs.Prelude.{◌≡◌, flat_map, option_to_list};
 ghost use Rattle.wl_proto.specs.Spelling.{Gives, decoded};

@@ -1,4 +1,4 @@
-//! The messages of wl_subsurface.
+//! The messages of wl_subsurface, which places a surface in its parent and sets its mode.
 
 ghost use Rattle.std.specs.Prelude.{◌≡◌, flat_map, option_to_list};
 ghost use Rattle.wl_proto.specs.Spelling.{Gives, decoded};

@@ -1,4 +1,4 @@
-//! The messages of wl_surface.
+//! The messages of wl_surface: a rectangle of pixels, whose pending state a commit applies.
 
 ghost use Rattle.std.specs.Prelude.{◌≡◌, flat_map, option_to_list};
 ghost use Rattle.wl_proto.specs.Spelling.{Gives, decoded};

@@ -1,4 +1,4 @@
-//! The messages of xdg_popup.
+//! The messages of xdg_popup: a short-lived surface beside its parent, as a menu.
 
 ghost use Rattle.std.specs.Prelude.{◌≡◌, flat_map, option_to_list};
 ghost use Rattle.wl_proto.specs.Spelling.{Gives, decoded, Puts, HasSize};

@@ -1,4 +1,4 @@
-//! The messages of xdg_positioner.
+//! The messages of xdg_positioner: rules by which a popup is placed beside its parent.
 
 ghost use Rattle.wl_proto.specs.Spelling.{Gives, decoded};
 ghost use Rattle.wl_proto.specs.Messages.{xdg_positioner_request};

@@ -1,4 +1,4 @@
-//! The messages of xdg_surface.
+//! The messages of xdg_surface: what toplevels and popups have in common.
 
 ghost use Rattle.std.specs.Prelude.{◌≡◌, flat_map, option_to_list};
 ghost use Rattle.wl_proto.specs.Spelling.{Gives, decoded, Puts, HasSize};

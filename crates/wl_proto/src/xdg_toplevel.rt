@@ -1,4 +1,4 @@
-//! The messages of xdg_toplevel.
+//! The messages of xdg_toplevel: a window of the desktop, which the user can move and close.
 
 ghost use Rattle.std.specs.Prelude.{◌≡◌, [], ◌∷◌, flat_map, option_to_list};
 ghost use Rattle.wl_wire.specs.Wire.{Number, Block};

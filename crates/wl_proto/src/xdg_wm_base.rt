@@ -1,4 +1,4 @@
-//! The messages of xdg_wm_base.
+//! The messages of xdg_wm_base, which makes xdg_surfaces and positioners and pings clients.
 
 ghost use Rattle.std.specs.Prelude.{◌≡◌, flat_map, option_to_list};
 ghost use Rattle.wl_proto.specs.Spelling.{Gives, decoded};

@@ -5,7 +5,8 @@ ghost use Rattle.wl_recording.specs.Recording.{Differs};
 
 use std::ops::Range;
 
-/// Where bytes differ from what is held in their place, from the first that does to the last; an empty range where none does.
+/// Where bytes differ from those held in their place, from the first that does to the last. The
+/// range is empty if none does.
 pub fn difference(bytes: &[u8], held: &[u8]) -> Range<usize>
     requires { length held.now ≡ length bytes.now }
     ensures { Differs bytes.now held.now result.start result.end }
@@ -15,7 +16,7 @@ pub fn difference(bytes: &[u8], held: &[u8]) -> Range<usize>
     first..last
 }
 
-/// How many bytes two pieces of one length begin with alike.
+/// How many bytes at their front two pieces of one length share.
 fn same_front(bytes: &[u8], held: &[u8]) -> usize
     requires { length held.now ≡ length bytes.now }
     ensures within { result ≤ length bytes.now }
@@ -30,7 +31,7 @@ fn same_front(bytes: &[u8], held: &[u8]) -> usize
     bytes.len()
 }
 
-/// The place, not before `first`, from which on two pieces of one length are alike.
+/// The place, not before `first`, from which on two pieces of one length are the same.
 fn same_up_to(bytes: &[u8], held: &[u8], first: usize) -> usize
     requires long { length held.now ≡ length bytes.now }
     requires order { first ≤ length bytes.now }

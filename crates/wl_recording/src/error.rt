@@ -27,7 +27,7 @@ pub enum ReplayError {
     /// The report or the images couldn't be written.
     #[error("write failed")]
     Write,
-    /// This line is none of a recording.
+    /// This isn't a line of a recording.
     #[error("bad line {0}")]
     BadLine(u32),
     /// The side file that this line asks for isn't there, or failed.
@@ -39,7 +39,7 @@ pub enum ReplayError {
 }
 
 impl ReplayError {
-    /// Its number: 1 to 5, as they stand.
+    /// Its number, 1 to 5, in the order of the errors.
     pub fn number(self) -> u8
         ensures { result ≡ error_number self }
     {

@@ -27,8 +27,8 @@ fn byte(high: u8, low: u8) -> Option<u8>
     Some(16 * high + low)
 }
 
-/// Puts the bytes that a text spells into `bytes`: two hex digits for each, with spaces between bytes. False where it
-/// spells none.
+/// Puts the bytes that a text spells into `bytes`: two hex digits for each, with spaces between
+/// bytes. The answer is false if it spells none.
 pub(crate) fn decode<A: Allocator>(text: &[u8], bytes: &mut Vec<u8, A>) -> Result<bool, AllocError>
     ensures spelt { result ≡ Ok true → bytes_in text.now ≡ Some bytes.new.items }
     ensures bad { result ≡ Ok false → bytes_in text.now ≡ None }

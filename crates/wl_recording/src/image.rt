@@ -10,7 +10,7 @@ use std::io;
 use std::io::Write;
 use wl_paint::{Framebuffer, write_ppm};
 
-/// Appends the image of a frame, where images are wanted.
+/// Appends the image of a frame, if images are wanted.
 pub fn write_image<A: Allocator, P: Write>(
     frame: &Framebuffer<A>,
     ppm: &mut Option<P>,

@@ -1,5 +1,6 @@
-//! The lines of a recording, the side files that they name, the ranges of stores that a text names, and what is written of a run: the texts of a
-//! report, and images.
+//! The lines of a recording and of a report, the side files and ranges of stores that lines name,
+//! and images. Begin with [`Line`] and [`parse`], then [`write_line`]. Playing a recording is left
+//! to wl_replay, and serving clients to wl_server.
 #![tactic(auto)]
 
 mod copies;

@@ -15,24 +15,26 @@ use std::alloc::{AllocError, Allocator};
 #[derive(Clone, Copy, Debug, PartialEq, Eq)]
 pub enum Line<'a> {
     Connect,
-    /// A piece of a client's stream, whose bytes stand beside.
+    /// A piece of a client's stream; its bytes come beside.
     Bytes { client: u32 },
-    /// A store write, whose bytes stand beside.
+    /// A store write; its bytes come beside.
     Store { place: Place },
-    /// The bytes of a side file come into a store.
+    /// The bytes of a side file go into a store.
     File { place: Place, name: &'a str },
     Gone { client: u32 },
-    /// The pointer moves to this point of the output. `time` is in milliseconds; `x` and `y` are in pixels from the left top corner.
+    /// The pointer moves to this point of the output. `time` is in milliseconds. `x` and `y` are in
+    /// pixels from the top left corner.
     Motion { time: u32, x: i32, y: i32 },
-    /// A button is pressed or released. `time` is in milliseconds, and `code` is the kernel's number of the button.
+    /// A button is pressed or released. `time` is in milliseconds, and `code` is the kernel's
+    /// number of the button.
     Button { time: u32, code: u32, pressed: bool },
     Tick { time: u32 },
     /// A comment, or no words.
     Nothing,
 }
 
-/// Parses a line without its line feed, and puts the bytes that it spells into `piece`. None where it is no line of a
-/// recording.
+/// Parses a line without its line feed, and puts the bytes that it spells into `piece`. `None` if
+/// it isn't a line of a recording.
 pub fn parse<'a, A: Allocator>(
     text: &'a [u8],
     piece: &mut Vec<u8, A>,
@@ -53,7 +55,7 @@ pub fn is_comment(text: &[u8]) -> bool
     !text.is_empty() && text[0] == b'#'
 }
 
-/// Parses a line by its first word and what follows it.
+/// Parses a line from its first word and the rest.
 fn parse_words<'a, A: Allocator>(
     word: &[u8],
     rest: &'a [u8],
@@ -127,7 +129,7 @@ fn parse_file(rest: &[u8]) -> Option<Line<'_>>
     Some(Line::File { place, name })
 }
 
-/// The motion whose three words are the only ones of a text.
+/// The motion, if a text has exactly its three words.
 fn parse_motion(rest: &[u8]) -> Option<Line<'static>>
     ensures { (piece : List ℕ) → option_map (meaning piece) result ≡ asked_motion rest.now }
 {
@@ -150,7 +152,7 @@ fn motion_by(time: &[u8], x: &[u8], y: &[u8]) -> Option<Line<'static>>
     Some(Line::Motion { time, x, y })
 }
 
-/// The press or release whose three words are the only ones of a text.
+/// The press or release, if a text has exactly its three words.
 fn parse_button(rest: &[u8]) -> Option<Line<'static>>
     ensures { (piece : List ℕ) → option_map (meaning piece) result ≡ asked_button rest.now }
 {
@@ -177,7 +179,7 @@ fn button_by(time: &[u8], code: &[u8], pressed: &[u8]) -> Option<Line<'static>>
     })
 }
 
-/// Puts the bytes that a text spells into `piece`, at least one. False where it spells none.
+/// Puts the bytes that a text spells into `piece`. The answer is false if it spells none.
 fn read_hex<A: Allocator>(digits: &[u8], piece: &mut Vec<u8, A>) -> Result<bool, AllocError>
     ensures spelt { result ≡ Ok true → hex_in digits.now ≡ Some piece.new.items }
     ensures bad { result ≡ Ok false → hex_in digits.now ≡ None }
@@ -185,7 +187,7 @@ fn read_hex<A: Allocator>(digits: &[u8], piece: &mut Vec<u8, A>) -> Result<bool,
     Ok(decode(digits, piece)? && !piece.is_empty())
 }
 
-/// The number that is the only word of a text.
+/// The number, if it is the only word of a text.
 fn last_number(text: &[u8]) -> Option<u32>
     ensures { result ≡ only_number text.now }
 {

@@ -8,7 +8,7 @@ use std::alloc::{AllocError, Allocator};
 use std::io::{BufRead, ErrorKind};
 use thiserror::Error;
 
-/// The greatest number of bytes of a line, without its line feed.
+/// How many bytes a line may have, without its line feed.
 pub const LINE_LIMIT: usize = 140_000;
 
 /// Why no line was read.
@@ -25,7 +25,7 @@ pub enum LineError {
     Memory,
 }
 
-/// What ends the bytes that were taken for a line.
+/// What ends the bytes taken for a line.
 #[derive(Clone, Copy, Debug, PartialEq, Eq)]
 pub(crate) enum Part {
     /// Nothing yet.
@@ -35,7 +35,8 @@ pub(crate) enum Part {
     End,
 }
 
-/// Reads the next line into `line`, without its line feed, which the last may lack. False at the end.
+/// Reads the next line into `line`, without its line feed, which the last may lack. The answer is
+/// false at the end.
 pub fn read_line<R: BufRead, A: Allocator>(
     reader: &mut R,
     line: &mut Vec<u8, A>,
@@ -61,7 +62,8 @@ pub fn read_line<R: BufRead, A: Allocator>(
     Err(LineError::Read)
 }
 
-/// Takes at most `room` bytes that the reader has at hand, up to a line feed, and appends them without it.
+/// Takes at most `room` bytes that the reader has at hand, up to a line feed, and appends them
+/// without it.
 fn take_part<R: BufRead, A: Allocator>(
     reader: &mut R,
     line: &mut Vec<u8, A>,
@@ -91,7 +93,7 @@ fn take_part<R: BufRead, A: Allocator>(
     Ok(part)
 }
 
-/// How many bytes up to the first line feed, with it, or all, but at most `room`.
+/// How many bytes there are up to the first line feed, with it, or in all; at most `room`.
 fn end_of(bytes: &[u8], room: usize) -> usize
     requires { 1 ≤ room }
     ensures within { result ≤ length bytes.now }

@@ -7,10 +7,10 @@ ghost use Rattle.wl_recording.specs.Line.{is_name, is_name_byte, name_in};
 use crate::word::{is_blank, next_word};
 use std::str;
 
-/// The greatest number of bytes of a name.
+/// How many bytes a name may have.
 const NAME_LIMIT: usize = 64;
 
-/// The name that is the only word of a text.
+/// The name, if it is the only word of a text.
 pub(crate) fn last_name(text: &[u8]) -> Option<&str>
     ensures { option_map (λ name. name.now) result ≡ name_in text.now }
 {

@@ -3,7 +3,7 @@
 ghost use Rattle.std.specs.Prelude.{◌≡◌};
 ghost use Rattle.wl_recording.specs.Line.{has_minus, natural_of, negative_of, number_of, pressed_of, signed_of};
 
-/// The number that a word of decimal digits spells, where it fits 32 bits. Leading zeros are free.
+/// The number that a word of decimal digits spells, if it fits 32 bits. Leading zeros are free.
 pub fn number(word: &[u8]) -> Option<u32>
     ensures { result ≡ number_of word.now }
 {
@@ -23,7 +23,7 @@ pub fn number(word: &[u8]) -> Option<u32>
     Some(value as u32)
 }
 
-/// The coordinate that a word spells: a number, with a `-` before it where it is negative.
+/// The coordinate that a word spells: a number, with a `-` before it if it is negative.
 pub fn signed(word: &[u8]) -> Option<i32>
     ensures { result ≡ signed_of word.now }
 {
@@ -52,7 +52,7 @@ fn negative(number: u32) -> Option<i32>
     i32::try_from(-i64::from(number)).ok()
 }
 
-/// Whether a word that is 0 or 1 is 1.
+/// Whether a word says that a button is pressed (1) or released (0). `None` for any other word.
 pub fn pressed_of(word: &[u8]) -> Option<bool>
     ensures { result ≡ pressed_of word.now }
 {

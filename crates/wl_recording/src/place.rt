@@ -7,7 +7,7 @@ use crate::numbers::number;
 use crate::word::next_word;
 use wl_store::StoreNo;
 
-/// A place in a store: the client that the store is of, the store's number there, and the byte, from 0.
+/// A place in a store: the client of the store, the store's number, and the byte, from 0.
 #[derive(Clone, Copy, Debug, PartialEq, Eq)]
 pub struct Place {
     pub client: u32,

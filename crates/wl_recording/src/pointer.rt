@@ -10,17 +10,20 @@ use crate::word::{is_blank, next_word};
 /// What a line of a pointer file asks.
 #[derive(Clone, Copy, Debug, PartialEq, Eq)]
 pub enum PointerLine {
-    /// The pointer moves to this point of the output. `time` is in milliseconds; `x` and `y` are in pixels from the left top corner.
+    /// The pointer moves to this point of the output. `time` is in milliseconds. `x` and `y` are in
+    /// pixels from the top left corner.
     Motion { time: u32, x: i32, y: i32 },
-    /// A button is pressed or released. `time` is in milliseconds, and `code` is the kernel's number of the button.
+    /// A button is pressed or released. `time` is in milliseconds, and `code` is the kernel's
+    /// number of the button.
     Button { time: u32, code: u32, pressed: bool },
     /// A comment, or no words.
     Skip,
-    /// No line of a pointer file.
+    /// Not a line of a pointer file.
     Bad,
 }
 
-/// What a line without its line feed asks: `motion T X Y`, `button T CODE 0` or `button T CODE 1`, in words parted by spaces.
+/// What a line without its line feed asks: `motion T X Y`, `button T CODE 0` or `button T CODE 1`,
+/// in words with spaces between.
 pub fn pointer_line(text: &[u8]) -> PointerLine
     ensures { result ≡ pointer_by text.now }
 {
@@ -39,7 +42,7 @@ pub fn pointer_line(text: &[u8]) -> PointerLine
     }
 }
 
-/// The motion whose three words are the only ones of a text.
+/// The motion, if a text has exactly its three words.
 fn motion_in(text: &[u8]) -> Option<PointerLine>
     ensures { result ≡ motion_in text.now }
 {
@@ -62,7 +65,7 @@ fn motion_by(time: &[u8], x: &[u8], y: &[u8]) -> Option<PointerLine>
     Some(PointerLine::Motion { time, x, y })
 }
 
-/// The button whose three words are the only ones of a text.
+/// The button, if a text has exactly its three words.
 fn button_in(text: &[u8]) -> Option<PointerLine>
     ensures { result ≡ button_in text.now }
 {

@@ -9,8 +9,8 @@ use crate::numbers::number;
 use crate::word::cut_word;
 use wl_store::StoreNo;
 
-/// A range of a store of a client: its first byte, from 0, and how many bytes it has, at most; and the byte of a side file that the first comes
-/// from.
+/// A range of a client's store: its first byte, from 0, and how many bytes it has, at most. It also
+/// has the byte of a side file that the first one comes from.
 #[derive(Clone, Copy, Debug, PartialEq, Eq)]
 pub struct StoreRange {
     pub store: StoreNo,
@@ -19,8 +19,10 @@ pub struct StoreRange {
     pub from: u32,
 }
 
-/// The range that the first line of a text names, and what follows that line. None where the text has no line that ends with a line feed, where that
-/// line isn't `K AT LEN FROM` in decimal numbers, and where the range doesn't rise behind the one before.
+/// The range that the first line of a text names, and what follows that line. `None` if:
+/// - the text has no line that ends with a line feed;
+/// - that line isn't `K AT LEN FROM` in decimal numbers;
+/// - the range doesn't begin behind the one before.
 pub fn next_range(before: Option<StoreRange>, text: &[u8]) -> Option<(StoreRange, &[u8])>
     ensures range { option_map (λ found. found.0) result ≡ first_range before (lines_of text.now) }
     ensures rest { IfSome result (λ found. lines_of found.1.now ≡ drop 1 (lines_of text.now)) }
@@ -75,7 +77,7 @@ fn range_by(store: &[u8], at: &[u8], len: &[u8], from: &[u8]) -> Option<StoreRan
     })
 }
 
-/// Whether a range rises behind the one before.
+/// Whether a range begins behind the one before: in a later store, or later in the same store.
 fn rises(before: Option<StoreRange>, range: StoreRange) -> bool
     ensures { result ≡ rises before range }
 {

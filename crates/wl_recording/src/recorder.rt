@@ -11,11 +11,11 @@ use std::io;
 use std::io::Write;
 use std::marker::Model;
 
-/// The greatest number of lines of a recording.
+/// How many lines a recording may have.
 pub const MAX_LINES: u32 = 1_000_000;
 
-/// Writes a recording: a line for each thing that is asked. Where there are as many lines as a recording may have, the last says that it ends, and
-/// nothing more is written.
+/// Writes a recording: a line for each thing that is asked. When a recording has as many lines as
+/// it may have, the last one says so, and nothing more is written.
 #[derive(Drop)]
 pub struct Recorder<W> {
     writer: W,
@@ -31,14 +31,15 @@ impl<W> Model for Recorder<W> {
 }
 
 impl<W: Write> Recorder<W> {
-    /// Nothing is written yet.
+    /// A recorder that has written nothing yet.
     pub fn new(writer: W) -> Recorder<W>
         ensures { result ≡ record { writer = writer; lines = 0 } }
     {
         Recorder { writer, lines: 0 }
     }
 
-    /// Writes what is asked. `piece` has the bytes of a `Bytes` or a `Store`. An `Err` is the writer's, and a part of the line may have been written.
+    /// Writes what is asked. `piece` has the bytes of a `Bytes` or a `Store`. An `Err` is the
+    /// writer's; a part of the line may have been written then.
     pub fn record(&mut self, line: &Line<'_>, piece: &[u8]) -> io::Result<()>
         ensures { OnOk result ((first : Option (List ℕ)) (asked : List Asked) → Holds MAX_LINES W.contents first asked self.old
             → Holds MAX_LINES W.contents first (asked ++ meaning piece.now line.now ∷ []) self.new) }
@@ -54,7 +55,7 @@ impl<W: Write> Recorder<W> {
         }
     }
 
-    /// What was written isn't held back any more.
+    /// Flushes what was written.
     pub fn flush(&mut self) -> io::Result<()>
         ensures text { Keeps (W.contents self.old.writer) (W.contents self.new.writer) }
         ensures lines { self.new.lines ≡ self.old.lines }

@@ -16,7 +16,8 @@ use std::io;
 use std::io::{ErrorKind, Write};
 use std::marker::Model;
 
-/// A recording of what a server's clients do, who are named by their numbers in its session. Once a write failed nothing more is written.
+/// A recording of what a server's clients do. The clients are named by their numbers in its
+/// session. After a write failed nothing more is written.
 #[derive(Drop)]
 pub struct Recording<A: Allocator, W> {
     recorder: Recorder<W>,
@@ -46,7 +47,7 @@ impl<A: Allocator + Copy, W: Write> Recording<A, W> {
         }
     }
 
-    /// A client connected, and gets the lowest number that is free.
+    /// A client connected, and gets the lowest free number of the recording.
     pub fn connect(&mut self, client: u32)
         ensures asked { (first : Option (List ℕ)) (asked : List Asked) → HoldsTo 1000000 W.contents first asked self.old
             → HoldsTo 1000000 W.contents first (asked ++ Connect ∷ []) self.new }
@@ -107,7 +108,7 @@ impl<A: Allocator + Copy, W: Write> Recording<A, W> {
         }
     }
 
-    /// A client ended, and its number there is free.
+    /// A client ended, and its number in the recording is free.
     pub fn leave(&mut self, client: u32)
         ensures written { self.new.written ≡ self.old.written }
         ensures has_failed { self.new.has_failed ≡ self.old.has_failed }
@@ -117,14 +118,14 @@ impl<A: Allocator + Copy, W: Write> Recording<A, W> {
         self.copies.forget(client);
     }
 
-    /// The number that a client of the session has there.
+    /// The number in the recording of a client of the session.
     pub fn number(&self, client: u32) -> Option<u32>
         ensures { result ≡ number_of client self.now.clients }
     {
         self.roster.number(client)
     }
 
-    /// This is asked. `piece` has the bytes of a `Bytes` or a `Store`.
+    /// Records what is asked. `piece` has the bytes of a `Bytes` or a `Store`.
     pub fn record(&mut self, line: &Line<'_>, piece: &[u8])
         ensures asked { (first : Option (List ℕ)) (asked : List Asked) → HoldsTo 1000000 W.contents first asked self.old
             → HoldsTo 1000000 W.contents first (asked ++ meaning piece.now line.now ∷ []) self.new }
@@ -154,7 +155,7 @@ impl<A: Allocator + Copy, W: Write> Recording<A, W> {
         flushed
     }
 
-    /// Bytes come into a store of a client, by its number there.
+    /// Bytes go into a store of a client, by its number in the recording.
     fn store_there(&mut self, client: u32, place: &Place, from: usize, piece: &[u8])
         requires { place.now.at + from < 2 ^ 32 }
         ensures asked { (first : Option (List ℕ)) (asked : List Asked) → HoldsTo 1000000 W.contents first asked self.old
@@ -172,7 +173,7 @@ impl<A: Allocator + Copy, W: Write> Recording<A, W> {
         self.record(&Line::Store { place: there }, piece);
     }
 
-    /// The bytes of a client, by its number there, in lines.
+    /// The bytes of a client, by its number in the recording, in lines.
     fn feed_all(&mut self, client: u32, piece: &[u8])
         ensures asked { (first : Option (List ℕ)) (asked : List Asked) → HoldsTo 1000000 W.contents first asked self.old
             → (more : List Asked) × Feeds (Some client) piece.now more × HoldsTo 1000000 W.contents first (asked ++ more) self.new }

@@ -8,8 +8,11 @@ use std::marker::Model;
 /// The greatest number of clients.
 const CLIENTS: usize = 32;
 
-/// Which client of a session has which number in a recording of it. A replay gives each client that connects the lowest number that is free, and
-/// frees it as the client ends; a session frees its number later. It is seen as the numbers in the session, by those in the recording from 1.
+/// Which client of a session has which number in a recording of it. Contracts see the numbers in
+/// the session, by those in the recording, from 1.
+///
+/// A replay gives each client that connects the lowest free number, and frees it when the client
+/// ends. A session frees its number later.
 #[derive(Drop)]
 pub struct Roster {
     clients: [Option<u32>; CLIENTS],
@@ -43,7 +46,7 @@ impl Roster {
         Some(place as u32 + 1)
     }
 
-    /// A client gets the lowest number that is free, where one is.
+    /// Gives a client the lowest free number, if there is one.
     pub fn join(&mut self, client: u32)
         ensures { self.new ≡ joined client self.old }
     {
@@ -52,7 +55,7 @@ impl Roster {
         }
     }
 
-    /// The number of a client is free, if it has one.
+    /// Frees the number of a client, if it has one.
     pub fn leave(&mut self, client: u32)
         ensures { self.new ≡ left client self.old }
     {

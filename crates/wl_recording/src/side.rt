@@ -12,21 +12,23 @@ pub struct SideFault;
 
 /// Files by name, of which one is open at a time.
 pub trait SideFiles {
-    /// How many faults there were; it stays at its greatest value.
+    /// How many calls failed, up to the greatest number.
     ghost fault_count: { Self → ℕ };
 
     /// Which bytes a read may give, from one state to the next.
     ghost gives: { Self → List ℕ → Self → Type 0 };
 
-    /// Which answers an `open` of a name, to read from a byte on, may give, from one state to the next.
+    /// Which answers an `open` of a name, to read from a byte on, may give, from one state to the
+    /// next.
     ghost opens: { Self → List ℕ → ℕ → Bool → Self → Type 0 };
 
-    /// Opens a file, which is then read from this byte on, counted from 0. False where there is none.
+    /// Opens a file, to be read from this byte on, counted from 0. The answer is false if there is
+    /// no such file.
     fn open(&mut self, name: &str, from: u32) -> Result<bool, SideFault>
         ensures answers { IfOk result (λ there. opens self.old name.now from there self.new) }
         ensures faults { CountsFault (fault_count self.old) (fault_count self.new) result };
 
-    /// Reads the next bytes of the open file, and answers how many; none only at its end.
+    /// Reads the next bytes of the open file, and answers how many; 0 only at its end.
     fn read(&mut self, buf: &mut [u8]) -> Result<usize, SideFault>
         ensures within { IfOk result (λ n. n ≤ length buf.new) }
         ensures bytes { IfOk result (λ n. gives self.old (first n buf.new) self.new) }

@@ -1,11 +1,11 @@
-//! Words, parted by spaces.
+//! Words, with spaces between.
 
 ghost use Rattle.std.specs.Prelude.{◌≡◌, ◌==◌, ◌≤◌, length, not};
 ghost use Rattle.std.specs.List.{prefix_len};
 ghost use Rattle.wl_recording.specs.Line.{after_word, first_word, is_blank};
 ghost use Rattle.wl_recording.specs.Ranges.{before_space, behind_space};
 
-/// The first word of a text, empty where it has none, and what follows it.
+/// The first word of a text (empty if it has none), and what follows it.
 pub fn next_word(text: &[u8]) -> (&[u8], &[u8])
     ensures word { result.0.now ≡ first_word text.now }
     ensures rest { result.1.now ≡ after_word text.now }
@@ -14,7 +14,8 @@ pub fn next_word(text: &[u8]) -> (&[u8], &[u8])
     text.split_at(word_len(text))
 }
 
-/// What stands before the first space of a text, and behind it. Without a space all of it stands before.
+/// What is before the first space of a text, and what is behind it. Without a space all of it is
+/// before.
 pub(crate) fn cut_word(text: &[u8]) -> (&[u8], &[u8])
     ensures word { result.0.now ≡ before_space text.now }
     ensures rest { result.1.now ≡ behind_space text.now }

@@ -12,11 +12,11 @@ use crate::report::write_hex;
 use std::io;
 use std::io::Write;
 
-/// The greatest number of bytes that may stand in one line: two digits each, beside a word and three numbers.
+/// How many bytes one line may spell: two digits each, beside a word and three numbers.
 pub const PIECE_LIMIT: usize = 65_536;
 
-/// Appends the line that asks this, with its line feed. `piece` has the bytes of a `Bytes` or a `Store`. After an `Err` a part of the line
-/// may have been written.
+/// Appends the line that asks this, with its line feed. `piece` has the bytes of a `Bytes` or a
+/// `Store`. After an `Err` a part of the line may have been written.
 pub fn write_line<W: Write>(line: &Line<'_>, piece: &[u8], writer: &mut W) -> io::Result<()>
     ensures { OnOk result (Appends (W.contents writer.old) (W.contents writer.new) (line_of (meaning piece.now line.now))) }
 {
@@ -24,14 +24,15 @@ pub fn write_line<W: Write>(line: &Line<'_>, piece: &[u8], writer: &mut W) -> io
     writer.write_all(b"\n")
 }
 
-/// Appends the last line of a recording that has as many lines as one may have. It asks nothing.
+/// Appends the last line of a recording that has as many lines as it may have. It asks nothing.
 pub fn write_last_line<W: Write>(writer: &mut W) -> io::Result<()>
     ensures { OnOk result (Appends (W.contents writer.old) (W.contents writer.new) last_line) }
 {
     writer.write_all(b"# the recording ends here: it has as many lines as a recording may have\n")
 }
 
-/// A line that was written is read as what it was written of, where its numbers fit and it has at least one byte and at most `PIECE_LIMIT`.
+/// A written line is read as what it was written from, if its numbers fit and it has between 1 and
+/// `PIECE_LIMIT` bytes.
 pub fn written_is_read()
     ensures { WrittenIsRead PIECE_LIMIT LINE_LIMIT }
 {}
@@ -75,7 +76,7 @@ fn write_place<W: Write>(place: &Place, writer: &mut W) -> io::Result<()>
     write!(writer, "{} {} {}", place.client, place.store, place.at)
 }
 
-/// 1 where a button is pressed.
+/// 1 if a button is pressed, else 0.
 fn digit_of(pressed: bool) -> u32
     ensures { result ≡ digit_of pressed }
 {

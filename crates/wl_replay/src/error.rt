@@ -4,7 +4,7 @@ ghost use Rattle.std.specs.Prelude.{◌≡◌};
 
 use std::io;
 
-/// Why the step of a line wasn't taken, or not told of.
+/// Why a line's step wasn't taken, or wasn't reported.
 #[derive(Clone, Copy, Debug, PartialEq, Eq)]
 pub(crate) enum StepError {
     Write,

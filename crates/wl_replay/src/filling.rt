@@ -1,4 +1,4 @@
-//! The lines that put side files into stores.
+//! Lines that put side files into stores.
 
 ghost use Rattle.std.specs.Prelude.{◌≡◌, ◌≤◌, ℕ, List, length, true, false, Ok, Err, IfOk, OnOk};
 ghost use Rattle.wl_session.specs.Agreeing.{Agrees};
@@ -14,10 +14,10 @@ use std::io::Write;
 use wl_recording::{Place, SideFault, SideFiles};
 use wl_session::{Fed, Session, Stored};
 
-/// The greatest number of bytes that are asked of a file at once.
+/// How many bytes are asked of a file at once, at most.
 const PIECE: usize = 4096;
 
-/// The bytes of a side file come into a store, up to the end of either.
+/// Puts the bytes of a side file into a store, up to the end of either.
 pub(crate) fn put_file<A: Allocator + Copy, W: Write, S: SideFiles>(
     session: &mut Session<A>,
     place: Place,
@@ -40,7 +40,7 @@ pub(crate) fn put_file<A: Allocator + Copy, W: Write, S: SideFiles>(
     }
 }
 
-/// The size of a store, where a file may be put into it from this place on; else why not.
+/// The size of a store, if a file may be put into it from this place on; else why not.
 fn room_for<A: Allocator + Copy>(session: &Session<A>, place: Place) -> Result<u32, Stored>
     ensures room { (d : Desktop) → Agrees session.now.desk d → result ≡ room_in d place }
     ensures within { IfOk result (λ size. place.at ≤ size) }
@@ -58,7 +58,8 @@ fn room_for<A: Allocator + Copy>(session: &Session<A>, place: Place) -> Result<u
     }
 }
 
-/// Opens a file and puts its bytes into a store of this size. False where there is no such file.
+/// Opens a file and puts its bytes into a store of this size. The answer is false if there is no
+/// such file.
 fn load<A: Allocator + Copy, S: SideFiles>(
     session: &mut Session<A>,
     place: Place,
@@ -104,7 +105,8 @@ fn fill<A: Allocator + Copy, S: SideFiles>(
     Ok(())
 }
 
-/// Writes what one read of the open file gives to a place, and answers how many bytes. None only at the file's end.
+/// Writes what one read of the open file gives to a place. The answer is how many bytes; 0 only at
+/// the file's end.
 fn write_piece<A: Allocator + Copy, S: SideFiles>(
     session: &mut Session<A>,
     place: Place,

@@ -1,4 +1,6 @@
 //! Replays of recordings: what a compositor answers to what happens to it, in reports and images.
+//! Begin with [`replay`]. The lines of recordings and reports are left to wl_recording, and what
+//! happens to wl_session.
 #![tactic(auto)]
 
 mod error;

@@ -21,14 +21,20 @@ use wl_session::{Config, Session};
 /// The greatest number of lines of a recording.
 pub const MAX_LINES: u32 = 1_000_000;
 
-/// Plays a recording, and writes a report of what the clients are sent and of the frames that are shown. `ppm` gets an image
-/// for each frame, where there is one. The output's sides are 1 to 4,096 pixels.
+/// Plays a recording, and writes a report of what the clients are sent and of the frames that are
+/// shown. `ppm`, if it is there, gets an image for each frame. The output's sides are 1 to 4,096
+/// pixels.
 ///
-/// Each image is the desktop as its tick began, painted from nothing in stacking order, at each point that no window covers of a client that broke a
-/// promise since it connected: to damage what it changes, to leave a buffer that is shown as it is, and to call only opaque pixels opaque.
+/// Each image is the desktop as its tick began, painted from nothing in stacking order. That holds
+/// at each point that no window covers of a client that broke a promise since it connected. A
+/// client promises to damage what it changes, to leave a shown buffer as it is, and to call only
+/// opaque pixels opaque.
 ///
-/// `BadLine` is decided before anything of its line is done. `Side` is answered only where a side file that is asked for isn't
-/// there, or a call on the side files failed. After both the report tells of the lines before.
+/// # Errors
+///
+/// `BadLine` is decided before anything of its line is done. `Side` comes only if a side file that
+/// is asked for isn't there, or if a call on the side files failed. After both the report has the
+/// lines before.
 pub fn replay<A: Allocator + Copy, R: BufRead, W: Write, P: Write, S: SideFiles>(
     alloc: A,
     config: Config,
@@ -110,7 +116,7 @@ impl<A: Allocator + Copy> Player<A> {
         })
     }
 
-    /// Plays the next line. None at the end of the recording.
+    /// Plays the next line. `None` at the end of the recording.
     fn play_line<R: BufRead, W: Write, P: Write, S: SideFiles>(
         &mut self,
         reader: &mut R,
@@ -145,7 +151,8 @@ impl<A: Allocator + Copy> Player<A> {
     }
 }
 
-/// Reads the next line, which has this number, without its line feed. False at the end.
+/// Reads the next line, which has this number, without its line feed. The answer is false at the
+/// end.
 fn read_text<R: BufRead, A: Allocator>(
     number: u32,
     reader: &mut R,

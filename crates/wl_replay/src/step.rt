@@ -41,7 +41,7 @@ pub(crate) struct Asked<'a> {
     pub(crate) piece: &'a [u8],
 }
 
-/// Takes the step that a line asks, and tells of it.
+/// Takes the step that a line asks, and reports it.
 pub(crate) fn take_line<A: Allocator + Copy, W: Write, P: Write, S: SideFiles>(
     session: &mut Session<A>,
     asked: Asked<'_>,
@@ -123,7 +123,7 @@ fn take_step<A: Allocator + Copy, W: Write, P: Write, S: SideFiles>(
     }
 }
 
-/// A client connects. Answers how many did.
+/// A client connects. The answer is how many did.
 fn connect<A: Allocator + Copy, W: Write>(
     session: &mut Session<A>,
     writer: &mut W,
@@ -162,7 +162,7 @@ fn feed<A: Allocator + Copy, W: Write>(
     write_absent(client, before, writer)
 }
 
-/// A client goes.
+/// A client closes its connection.
 fn gone<A: Allocator + Copy, W: Write>(
     session: &mut Session<A>,
     client: u32,
@@ -194,7 +194,7 @@ fn tick<A: Allocator + Copy, W: Write, P: Write>(
     write_image(frame.pixels, ppm).map_err(write_failed)
 }
 
-/// Says so where no client had the number.
+/// Reports it if no client had the number.
 fn write_absent<W: Write>(client: u32, before: Fed, writer: &mut W) -> Result<(), StepError>
     ensures told { OnOk result (Appends (W.contents writer.old) (W.contents writer.new) (absent_text client before)) }
     ensures kind { IfErr result (λ e. e ≡ StepError.Write) }

@@ -1,4 +1,4 @@
-//! The lines that write to stores.
+//! Lines that write to stores.
 
 ghost use Rattle.std.specs.Prelude.{◌≡◌, IfErr, OnOk};
 ghost use Rattle.std.specs.Io.KnownBytes.{Appends};
@@ -11,7 +11,7 @@ use std::io::Write;
 use wl_recording::{Place, write_none, write_nostore, write_outside};
 use wl_session::{Session, Stored};
 
-/// Bytes come into a store.
+/// Puts bytes into a store.
 pub(crate) fn store<A: Allocator + Copy, W: Write>(
     session: &mut Session<A>,
     place: Place,
@@ -26,7 +26,7 @@ pub(crate) fn store<A: Allocator + Copy, W: Write>(
     write_stored(place, stored, writer)
 }
 
-/// Says so where nothing could be written to a place.
+/// Reports it if nothing could be written to a place.
 pub(crate) fn write_stored<W: Write>(
     place: Place,
     stored: Stored,

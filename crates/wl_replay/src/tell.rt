@@ -1,4 +1,4 @@
-//! One step of a recording: it is taken, and what it leads to is told.
+//! What a step of a recording leads to: unsent bytes are sent, and ended clients closed.
 
 ghost use Rattle.std.specs.Prelude.{◌≡◌, ◌≤◌, ◌+◌, ◌*◌, ℕ, List, OnOk, IfOk, Ok, Err};
 ghost use Rattle.std.specs.Io.KnownBytes.{Appends};

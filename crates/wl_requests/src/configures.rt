@@ -1,4 +1,5 @@
-//! The configures of role objects: of toplevels and of popups, each followed by that of the xdg_surface (xdg-shell.xml, xdg_surface.configure).
+//! The configures of role objects: those of toplevels and popups, each followed by that of the
+//! xdg_surface (xdg-shell.xml, xdg_surface.configure).
 
 ghost use Rattle.std.specs.Prelude.{◌≡◌, ◌∷◌, ◌++◌, [], None, is_some};
 ghost use Rattle.std.specs.Option.{option_and_then, option_map};
@@ -24,7 +25,7 @@ use wl_surface::SurfaceNo;
 /// The state activated (xdg-shell.xml, xdg_toplevel.state), as an array of one word.
 const ACTIVATED: [u8; 4] = [4, 0, 0, 0];
 
-/// xdg_toplevel.configure, of no size of the compositor's.
+/// xdg_toplevel.configure, which leaves the size to the client.
 fn toplevel_event(toplevel: u32) -> Event<'static>
     ensures { said_of result ≡ toplevel_configured toplevel }
 {
@@ -49,7 +50,8 @@ fn xdg_surface_event(xdg_surface: u32, serial: u32) -> Event<'static>
     }
 }
 
-/// xdg_popup.configure: where it is placed, relative to the window geometry of its parent, and its size.
+/// xdg_popup.configure: where it is placed, relative to the window geometry of its parent, and its
+/// size, in pixels.
 fn popup_event(popup: u32, placed: Placed) -> Event<'static>
     ensures { said_of result ≡ popup_configured popup placed }
 {
@@ -76,7 +78,8 @@ fn repositioned_event(popup: u32, token: u32) -> Event<'static>
 }
 
 impl<A: Allocator + Copy> Resident<A> {
-    /// Configures a toplevel: xdg_toplevel.configure, of no size of the compositor's, and xdg_surface.configure.
+    /// Configures a toplevel: xdg_toplevel.configure, which leaves the size to the client, and
+    /// xdg_surface.configure.
     pub(crate) fn tell_configure(&mut self, toplevel: u32, xdg_surface: u32, serial: u32)
         ensures table { self.new.client.ended ≡ None → self.new.client.objects ≡ self.old.client.objects }
         ensures queues { (p : Peer) → IsPeer self.old.client p
@@ -90,7 +93,8 @@ impl<A: Allocator + Copy> Resident<A> {
         self.client.queue_all(&[first, second]);
     }
 
-    /// Configures a popup: xdg_popup.configure, where it is placed, and xdg_surface.configure.
+    /// Configures a popup: xdg_popup.configure, which says where it is placed, and
+    /// xdg_surface.configure.
     fn tell_placement(&mut self, popup: u32, placed: Option<Placed>, xdg_surface: u32, serial: u32)
         ensures table { self.new.client.ended ≡ None → self.new.client.objects ≡ self.old.client.objects }
         ensures queues { (p : Peer) → IsPeer self.old.client p
@@ -109,8 +113,9 @@ impl<A: Allocator + Copy> Resident<A> {
         }
     }
 
-    /// Where a popup was placed anew, the serial is drawn, and it is told with the token of the request where it will stand:
-    /// xdg_popup.repositioned, xdg_popup.configure and xdg_surface.configure (xdg-shell.xml, xdg_popup.reposition).
+    /// If a popup was placed anew, draws the serial and tells the popup where it will stand, with
+    /// the token of the request: xdg_popup.repositioned, xdg_popup.configure and
+    /// xdg_surface.configure (xdg-shell.xml, xdg_popup.reposition).
     pub(crate) fn tell_anew(
         &mut self,
         popup: u32,
@@ -153,7 +158,8 @@ impl<A: Allocator + Copy> Resident<A> {
         }
     }
 
-    /// Where a commit came to a configure, its serial is drawn, and the role object of the surface is configured with it.
+    /// If a commit led to a configure, draws its serial and configures the surface's role object
+    /// with it.
     pub(crate) fn tell_act(&mut self, surface: SurfaceNo, act: ShellAct, serial: u32)
         ensures table { self.new.client.ended ≡ None → self.new.client.objects ≡ self.old.client.objects }
         ensures told { (p : Peer) → IsPeer self.old.client p

@@ -1,4 +1,4 @@
-//! Popups that are dismissed (xdg-shell.xml, xdg_popup.popup_done).
+//! Dismissing popups (xdg-shell.xml, xdg_popup.popup_done).
 
 ghost use Rattle.std.specs.Prelude.{ℕ, ◌≡◌, ◌∷◌, [], None, Some, is_some, true};
 ghost use Rattle.wl_client.specs.Agreement.{IsPeer};
@@ -17,7 +17,7 @@ use std::alloc::Allocator;
 use wl_proto::{Event, EventBody, XdgPopupEvent};
 use wl_surface::{MAX_SURFACES, SurfaceNo};
 
-/// More popups than a client has: each is of another of its surfaces.
+/// More popups than a client can have: each has a surface of its own.
 const PAST_POPUPS: usize = MAX_SURFACES + 1;
 
 /// xdg_popup.popup_done.
@@ -52,8 +52,9 @@ impl<A: Allocator + Copy> Resident<A> {
         }
     }
 
-    /// The popup of the xdg_surface of a surface is dismissed, or those on it where it has none, and whatever descends from them: one after
-    /// another, the newest first. Each that wasn't dismissed before is told that it is done, until an event isn't queued.
+    /// Dismisses the popup of a surface's xdg_surface, or those on it if it has none, and their
+    /// descendants: one after another, the newest first. Each that wasn't dismissed before is told
+    /// that it is done, until an event isn't queued.
     pub(crate) fn dismiss_popups(&mut self, surface: SurfaceNo)
         ensures dismisses { DismissesWith surface self.old self.new }
         ensures table { self.new.client.ended ≡ None → self.new.client.objects ≡ self.old.client.objects }
@@ -74,7 +75,7 @@ impl<A: Allocator + Copy> Resident<A> {
         }
     }
 
-    /// Tells a client that isn't to end that the popup of a surface is done; one that is to end is told nothing.
+    /// Tells a client that the popup of a surface is done, unless the client is to end.
     fn tell_released(&mut self, surface: SurfaceNo)
         ensures told { (popup : ℕ) → role_id (kept_of self.old.owned.shell surface) ≡ Some popup → (p : Peer) → IsPeer self.old.client p
             → (q : Peer) × QueuesTo (said popup (says XdgPopup 1 []) ∷ []) p q self.new.client.refused × IsPeer (opened self.new.client) q }
@@ -89,9 +90,10 @@ impl<A: Allocator + Copy> Resident<A> {
         let _queued = self.client.queue(&popup_done_event(popup));
     }
 
-    /// The popups of a client with a grab are dismissed, and whatever descends from them: one after another, the newest first
-    /// (xdg-shell.xml, xdg_popup.grab). Each that wasn't dismissed before is told that it is done, until an event isn't queued: the client is
-    /// to end for that then, and is told nothing more (see [`wl_client::Client::queue`]).
+    /// Dismisses a client's popups with a grab, and their descendants: one after another, the
+    /// newest first (xdg-shell.xml, xdg_popup.grab). Each that wasn't dismissed before is told that
+    /// it is done. If an event isn't queued, the client is to end for that, and is told nothing
+    /// more (see [`wl_client::Client::queue`]).
     pub fn release_grabs(&mut self)
         ensures releases { ReleasesGrabs self.old self.new }
         ensures client { self.new.client ≡ record self.old.client { unsent = self.new.client.unsent; refused = self.new.client.refused } }

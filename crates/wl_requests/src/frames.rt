@@ -1,4 +1,4 @@
-//! The frame callbacks of a client are answered.
+//! Answering the frame callbacks of a client.
 
 ghost use Rattle.std.specs.Prelude.{◌≡◌, None};
 ghost use Rattle.spec_desktop.specs.Peer.{Peer, Queues};
@@ -13,8 +13,9 @@ use crate::residents::Resident;
 use std::alloc::Allocator;
 
 impl<A: Allocator + Copy> Resident<A> {
-    /// Answers each callback whose request a commit applied, in the order of the requests: it is done at this time, in milliseconds, and its id
-    /// is given back (wayland.xml, wl_surface.frame). One that isn't queued ends the client, and no more is answered.
+    /// Answers each callback whose request a commit applied, in the order of the requests. It is
+    /// done at this time, in milliseconds, and its id is given back (wayland.xml,
+    /// wl_surface.frame). If an event isn't queued, the client ends, and no more is answered.
     pub fn answer_frames(&mut self, time: u32)
         ensures tells { self.old.client.ended ≡ None → (r : Plain) → IsResident self.old r → OwnsOrdered r
             → (q : Peer) × Queues (frames_told time r) (done_due r).peer q × IsLeft self.old self.new (done_due r) q

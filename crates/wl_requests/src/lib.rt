@@ -1,5 +1,9 @@
-//! The requests of one client, which are not its own alone: those of its surfaces, its subsurfaces, its xdg_surfaces, toplevels and popups, its seats and
-//! wl_pointers, and the answers to its frame callbacks.
+//! The requests of one client that are not its own alone: those of its surfaces, subsurfaces,
+//! xdg_surfaces, toplevels and popups, and of its seats and wl_pointers. Begin with [`Resident`],
+//! then `asked` and `serve`. Other clients, the windows of the output and the pointer's focus are
+//! left to wl_clients and wl_desk.
+//!
+//! Each interface has its own file. Frame callbacks are answered here too.
 #![tactic(auto)]
 
 mod configures;

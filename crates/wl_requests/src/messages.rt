@@ -40,19 +40,20 @@ pub enum Kind {
     Popup(XdgPopupRequest),
 }
 
-/// What the first message of what came asks.
+/// What the first message of a client's bytes asks.
 #[derive(Drop)]
 pub enum Asked {
     /// No whole message is there.
     More,
     /// It is refused before its own errors are looked at.
     Refused(Refusal),
-    /// It is so many bytes long and of one of the client's own interfaces. It asks this, or is refused by its own errors.
+    /// It has this size in bytes, and is of one of the client's own interfaces. It asks this, or
+    /// has this error of its own.
     Own {
         size: usize,
         judged: Result<Action, Refusal>,
     },
-    /// It is to this object, which has this version and target, and is so many bytes long.
+    /// It is to this object, which has this version and target, and has this size in bytes.
     Request {
         object: u32,
         version: u32,
@@ -62,7 +63,7 @@ pub enum Asked {
     },
 }
 
-/// What a request is that isn't one of the client's own.
+/// A request that isn't one of the client's own, by its interface.
 fn kind_of(request: &Request) -> Kind
     requires { is_own (request_message request.now).interface ≡ false }
     ensures { IsKind result (request_message request.now) }
@@ -89,7 +90,7 @@ fn kind_of(request: &Request) -> Kind
 }
 
 impl<A: Allocator + Copy> Resident<A> {
-    /// What the first message of what came asks. It isn't taken.
+    /// What the first message of the client's bytes asks. It isn't taken.
     pub fn asked(&self) -> Asked
         ensures { IsAsked self.now.client result }
     {
@@ -115,8 +116,9 @@ impl<A: Allocator + Copy> Resident<A> {
         }
     }
 
-    /// Answers a request to an object, which has this version and target. Where there is no room for windows nothing is applied, and where
-    /// there is none for a new wl_pointer its client ends. A popup is placed, at first and anew, and a grab allowed, by what is handed in.
+    /// Answers a request to an object, which has this version and target. Without room for windows
+    /// nothing is applied, and without room for a new wl_pointer its client ends. `given` says by
+    /// what a popup is placed, at first and anew, and whether a grab is allowed.
     fn answer(
         &mut self,
         object: u32,
@@ -174,10 +176,15 @@ impl<A: Allocator + Copy> Resident<A> {
         }
     }
 
-    /// Takes the first whole message of a client that lives, which asks this, and answers what that did. None where there is no whole message;
-    /// then nothing is changed. Where there is no room for the windows that it leads to, a request that may change what several surfaces show
-    /// runs out of memory, and nothing is applied; so does wl_seat.get_pointer where there is none for the new wl_pointer. A popup whose surface is
-    /// committed for the first time, or that is placed anew, is placed by what is handed in for that, and so is what a grab is allowed by.
+    /// Takes the first whole message of a living client, which asks this, and answers what it did.
+    /// `None` if there is no whole message; then nothing changes.
+    ///
+    /// `has_room` says whether there is room for the windows that it leads to, or for a new
+    /// wl_pointer. Without it the client ends as out of memory, and nothing is applied: on a
+    /// request that may change what several surfaces show, and on wl_seat.get_pointer.
+    ///
+    /// `placing` places a popup whose surface is committed for the first time, or that is placed
+    /// anew. `grabbing` says by what a grab is allowed.
     pub fn serve(
         &mut self,
         asked: Asked,

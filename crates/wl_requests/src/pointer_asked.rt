@@ -16,13 +16,15 @@ use wl_surface::SurfaceNo;
 pub enum PointerAsked {
     /// Nothing.
     Nothing,
-    /// A new wl_pointer with this id (wayland.xml, wl_seat.get_pointer): it is told of the focus, where its client has it.
+    /// A new wl_pointer with this id (wayland.xml, wl_seat.get_pointer). It is told of the focus if
+    /// its client has it.
     NewPointer(u32),
-    /// That the toplevel of this surface is moved with the pointer, by the serial of a press (xdg-shell.xml, xdg_toplevel.move).
+    /// The toplevel of this surface is to be moved with the pointer, by the serial of a press
+    /// (xdg-shell.xml, xdg_toplevel.move).
     Move(SurfaceNo, u32),
 }
 
-/// What a request asks of the pointer that is to an object with this target.
+/// What a request to an object with this target asks of the pointer.
 fn pointer_asked_by(target: usize, kind: Kind) -> PointerAsked
     ensures { result ≡ pointer_asked_by target kind }
 {
@@ -33,7 +35,7 @@ fn pointer_asked_by(target: usize, kind: Kind) -> PointerAsked
     }
 }
 
-/// What a message asks of the pointer that asks this.
+/// What a message that asks this asks of the pointer.
 fn pointer_in(asked: &Asked) -> PointerAsked
     ensures { result ≡ pointer_in asked.now }
 {
@@ -44,7 +46,8 @@ fn pointer_in(asked: &Asked) -> PointerAsked
 }
 
 impl<A: Allocator + Copy> Resident<A> {
-    /// What the first message of a client that lives, which asks this, asks of the pointer, unless it is refused.
+    /// What the first message of a living client, which asks this, asks of the pointer, unless it
+    /// is refused.
     pub fn pointer_asked(&self, asked: &Asked) -> PointerAsked
         requires { IsAsked self.now.client asked.now }
         ensures asks { MessageAsksPointer self.now result }

@@ -1,4 +1,5 @@
-//! wl_buffer.release: a buffer that no surface shows any more may be written to again; and the stores of buffers that are over go.
+//! wl_buffer.release: a client may write again to a buffer that no surface shows any more. Buffers
+//! that are over also let their stores go.
 
 ghost use Rattle.std.specs.Prelude.{ℕ, ◌≡◌, ◌==◌, ◌&&◌, ◌||◌, ◌++◌, Option, None, find, is_some, map, true, [], IfNone, IfOk, IfSome, OnOk};
 ghost use Rattle.std.specs.List.{list_any};
@@ -93,7 +94,7 @@ impl<A: Allocator + Copy> Resident<A> {
         }
     }
 
-    /// Lets the stores of these buffers go that are over, each once.
+    /// Lets the stores of those of these buffers go that are over, each once.
     fn let_go_of_three(
         &mut self,
         first: Option<Attached>,
@@ -111,7 +112,7 @@ impl<A: Allocator + Copy> Resident<A> {
         self.let_go_if_over(third, is_either(third, second, first));
     }
 
-    /// Lets the stores of the buffers that a surface had go, of those that are over, each once.
+    /// Of the buffers that a surface had, lets the stores of those go that are over, each once.
     pub(crate) fn let_go_of(&mut self, had: [Option<Attached>; 3])
         ensures stores { (r : Plain) (numbers : ById ℕ) → IsPeer self.old.client r.peer → AreKept numbers self.old.owned.surfaces.states self.old.owned.surfaces.family r.owned.surfaces
             → (at : Option Surface) → map (option_map buffer_of) had ≡ had_at at → IsPeer self.new.client (letting_go (buffers_had (option_map (λ (s : Surface). s.history) at)) r).peer }
@@ -123,7 +124,7 @@ impl<A: Allocator + Copy> Resident<A> {
         self.let_go_of_three(pending, held, applied);
     }
 
-    /// Lets the stores of those buffers go that are over: of the buffers that were shown, those of these numbers are looked at.
+    /// Lets the stores go of buffers that are over, among the shown ones with these numbers.
     fn let_go_of_freed(&mut self, freed: &[BufferNo], shown: &[Attached])
         ensures stores { (r : Plain) (numbers : ById ℕ) → IsPeer self.old.client r.peer → AreKept numbers self.old.owned.surfaces.states self.old.owned.surfaces.family r.owned.surfaces
             → AreOnce freed.now → IsPeer self.new.client (letting_go (freed_of freed.now (map buffer_of shown.now)) r).peer }
@@ -136,9 +137,9 @@ impl<A: Allocator + Copy> Resident<A> {
         }
     }
 
-    /// What a request applied to surfaces was told: of the buffers that it freed the stores of those go that are over, and the wl_buffers that are
-    /// released are answered, by their ids in rising order. None where there is no room for the windows that it leads to, or no memory; then the
-    /// client lacks that.
+    /// Lets the stores go of buffers that the request freed, if these are over. The answer is the
+    /// wl_buffers that are released, by their ids in rising order. `None` without room for the
+    /// windows that the request leads to, or without memory: then the client ends as out of memory.
     pub(crate) fn let_go_of_told(&mut self, told: &Told<A>, has_room: bool) -> Option<Vec<u32, A>>
         ensures lacks { IfNone result ((p : Peer) → IsPeer self.old.client p → (q : Peer) × LacksMemory p q × IsPeer self.new.client q) }
         ensures ended { IfNone result (is_some self.new.client.ended ≡ true) }
@@ -160,8 +161,8 @@ impl<A: Allocator + Copy> Resident<A> {
         Some(released)
     }
 
-    /// The wl_buffers that are released, by their ids in rising order: of the buffers that were shown, those of these numbers whose wl_buffers
-    /// are there.
+    /// The wl_buffers that are released, by their ids in rising order: of the shown buffers with
+    /// these numbers, those whose wl_buffers are there.
     fn released(
         &self,
         freed: &[BufferNo],
@@ -178,7 +179,7 @@ impl<A: Allocator + Copy> Resident<A> {
         Ok(ids)
     }
 
-    /// Puts the id of the wl_buffer of a buffer among others that rise, if it is there.
+    /// Puts the id of a buffer's wl_buffer among others that rise, if it is there.
     fn put_released(
         &self,
         ids: &mut Vec<u32, A>,

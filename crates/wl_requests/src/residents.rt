@@ -20,16 +20,17 @@ pub enum Stacking {
     Out(SurfaceNo),
 }
 
-/// What a popup is placed by where its surface is committed and where it is placed anew, in pixels of the output: within these bounds, which
-/// are the output's, and by where the window geometry of its parent stands (xdg-shell.xml, xdg_positioner and xdg_popup.reposition).
+/// By what a popup is placed, when its surface is committed and when it is placed anew
+/// (xdg-shell.xml, xdg_positioner and xdg_popup.reposition). All is in pixels of the output: the
+/// bounds, which are the output's, and where its parent's window geometry stands.
 #[derive(Clone, Copy, Debug, PartialEq, Eq)]
 pub struct Placing {
     pub bounds: Rect,
     pub parent_at: (i32, i32),
 }
 
-/// What a grab is allowed by (xdg-shell.xml, xdg_popup.grab): the serials of the latest press and of the latest release that the client was
-/// told of, and whether another client holds a grab.
+/// By what a grab is allowed (xdg-shell.xml, xdg_popup.grab): the serials of the latest press and
+/// release that the client was told of, and whether another client holds a grab.
 #[derive(Clone, Copy, Debug, PartialEq, Eq)]
 pub struct Grabbing {
     pub press: Option<u32>,
@@ -37,8 +38,8 @@ pub struct Grabbing {
     pub held_elsewhere: bool,
 }
 
-/// What is handed in for a request: whether there is room for the windows, or for the wl_pointer, that it leads to, what a popup is placed by,
-/// and what a grab is allowed by.
+/// What a request is served by. It says whether there is room for the windows or the wl_pointer
+/// that it leads to, and by what a popup is placed and a grab allowed.
 #[derive(Clone, Copy)]
 pub(crate) struct Given {
     pub(crate) has_room: bool,
@@ -46,8 +47,9 @@ pub(crate) struct Given {
     pub(crate) grabbing: Grabbing,
 }
 
-/// What a request did: to the stack of toplevels, and what it applied, if it may change what surfaces show (wayland.xml, wl_surface.commit and
-/// destroy; wl_subsurface.set_desync and destroy; xdg-shell.xml, xdg_popup.destroy).
+/// What a request did to the stack of toplevels, and what it applied, if it may change what
+/// surfaces show (wayland.xml, wl_surface.commit and destroy, wl_subsurface.set_desync and destroy;
+/// xdg-shell.xml, xdg_popup.destroy).
 #[derive(Drop)]
 pub struct Outcome<A: Allocator> {
     pub stacking: Stacking,
@@ -55,7 +57,7 @@ pub struct Outcome<A: Allocator> {
 }
 
 impl<A: Allocator> Outcome<A> {
-    /// What a request did to the stack of toplevels that applied nothing.
+    /// The outcome of a request that did this to the stack of toplevels, and applied nothing.
     pub(crate) fn of(stacking: Stacking) -> Self
         ensures { result ≡ record { stacking = stacking; applied = None } }
     {
@@ -66,8 +68,8 @@ impl<A: Allocator> Outcome<A> {
     }
 }
 
-/// A client, and its surfaces, wl_subsurfaces and xdg_surfaces. The table of its objects gives for each wl_surface, xdg_surface,
-/// xdg_toplevel and xdg_popup the number of its surface.
+/// A client, and its surfaces, wl_subsurfaces and xdg_surfaces. The table of its objects has the
+/// number of the surface for each wl_surface, xdg_surface, xdg_toplevel and xdg_popup.
 #[derive(Drop)]
 pub struct Resident<A: Allocator> {
     /// Its stream, its objects and its stores.

@@ -1,4 +1,5 @@
-//! The requests of wl_surface.
+//! The requests of wl_surface, a rectangle of pixels: they set its pending state, and a commit
+//! applies that.
 
 ghost use Rattle.std.specs.Prelude.{◌≡◌, ◌==◌, ◌+◌, ℕ, ℤ, if◌then◌else◌, Ok, Option, None, Some, is_some, true, unsigned_abs};
 ghost use Rattle.std.specs.List.{list_any};
@@ -46,7 +47,8 @@ fn is_valid(transform: i32) -> bool
     (0..=7).contains(&transform)
 }
 
-/// Whether this is a scale, so many pixels of a buffer for one of its surface (wayland.xml, wl_surface.set_buffer_scale).
+/// Whether this is a scale: how many pixels of a buffer make one of its surface (wayland.xml,
+/// wl_surface.set_buffer_scale).
 fn is_positive(scale: i32) -> bool
     ensures { result ≡ is_scale scale }
 {
@@ -70,7 +72,8 @@ fn has_number(numbers: &[BufferNo], number: BufferNo) -> bool
     numbers.iter().any(|other| *other == number)
 }
 
-/// What a commit does to the stack, which came to this for the surface's xdg_surface: only a toplevel is stacked.
+/// What a commit does to the stack that led to this for the surface's xdg_surface. Only a toplevel
+/// is stacked.
 fn stacking_of(act: ShellAct, surface: SurfaceNo, is_toplevel: bool) -> Stacking
     ensures { result ≡ (if is_toplevel then stacking_by act surface else Stacking.Stays) }
 {
@@ -98,8 +101,9 @@ impl<A: Allocator + Copy> Resident<A> {
         })
     }
 
-    /// wl_surface.destroy of a surface that has no xdg_surface. Its frame callbacks go with it, and their ids are given back after its own; its
-    /// links end, and its wl_subsurface is inert. None without memory.
+    /// wl_surface.destroy of a surface that has no xdg_surface. Its frame callbacks go with it, and
+    /// their ids are given back after its own. Its links end, and its wl_subsurface becomes inert.
+    /// `None` without memory.
     fn destroy_surface(
         &mut self,
         object: u32,
@@ -186,9 +190,11 @@ impl<A: Allocator + Copy> Resident<A> {
         }
     }
 
-    /// wl_surface.commit: what is pending counts, and the shell says what that comes to. A popup is placed by what is handed in for that. Where the
-    /// shell refuses nothing, a buffer whose sides are no multiples of the scale is refused, and nothing is applied (wayland.xml, wl_surface.error,
-    /// invalid_size).
+    /// wl_surface.commit: the pending state becomes the held one, and the shell says what that
+    /// leads to. `given` says by what a popup is placed.
+    ///
+    /// If the shell refuses nothing, a buffer whose sides are no multiples of the scale is refused,
+    /// and nothing is applied (wayland.xml, wl_surface.error, invalid_size).
     fn commit(&mut self, object: u32, surface: SurfaceNo, given: Given) -> Outcome<A>
         ensures answers { IsSurface self.old object surface
             → AnswersPlacedAs (is_some result.applied) given.placing (Kind.Surface Commit) object (λ r. commit_demand r object) self.old self.new }
@@ -231,8 +237,8 @@ impl<A: Allocator + Copy> Resident<A> {
         }
     }
 
-    /// What is pending of a surface counts, where the sides of its buffer are multiples of the scale, and what that came to for the shell is told.
-    /// Answers what was applied; None without memory for it.
+    /// Commits a surface if the sides of its buffer are multiples of the scale, and tells what that
+    /// led to for the shell. The answer is what was applied; `None` without memory for it.
     fn apply(
         &mut self,
         surface: SurfaceNo,
@@ -304,7 +310,7 @@ impl<A: Allocator + Copy> Resident<A> {
         }
     }
 
-    /// wl_surface.destroy: the xdg_surface of the surface must be gone.
+    /// wl_surface.destroy. It is refused while the surface has an xdg_surface.
     fn destroy(&mut self, object: u32, surface: SurfaceNo, has_room: bool) -> Outcome<A>
         ensures answers { IsSurface self.old object surface
             → AnswersDemandAs (is_some result.applied) (λ r. surface_destroyed r object) self.old self.new }
@@ -355,7 +361,8 @@ impl<A: Allocator + Copy> Resident<A> {
         self.set_buffer_scale(surface, scale);
     }
 
-    /// wl_surface.frame: the callback with this id waits until a commit applies the request and a frame is shown.
+    /// wl_surface.frame: the callback with this id waits until a commit applies the request and a
+    /// frame is shown.
     fn frame(&mut self, version: u32, surface: SurfaceNo, callback: u32)
         ensures answers { (object : ℕ) → IsSurface self.old object surface → IsFree self.old callback
             → AnswersDemand (λ r. Ok (AskFrame callback version object)) self.old self.new }
@@ -375,7 +382,8 @@ impl<A: Allocator + Copy> Resident<A> {
         }
     }
 
-    /// A request that asks something of a surface by itself, neither a commit nor its end. Its new id is free, if it has one.
+    /// A request that asks something of a surface by itself, neither a commit nor its end. Its new
+    /// id is free, if it has one.
     fn ask_surface(
         &mut self,
         object: u32,

@@ -1,4 +1,4 @@
-//! The requests of wl_compositor.
+//! The requests of wl_compositor, which make surfaces and regions.
 
 ghost use Rattle.std.specs.Prelude.{ℕ, ◌≡◌, ◌↔◌, IsTrue, Ok};
 ghost use Rattle.wl_proto.specs.Messages.{wl_compositor_request};
@@ -15,7 +15,7 @@ use wl_proto::{Interface, WlCompositorRequest};
 use wl_surface::SurfaceError;
 use wl_table::Entry;
 
-/// Whether the client has all the surfaces that it may have.
+/// Whether the client has as many surfaces as it may have.
 fn is_too_many(error: SurfaceError) -> bool
     ensures { IsTrue result ↔ (error ≡ SurfaceError.TooMany) }
 {
@@ -23,7 +23,8 @@ fn is_too_many(error: SurfaceError) -> bool
 }
 
 impl<A: Allocator + Copy> Resident<A> {
-    /// wl_compositor.create_surface: a new surface under a free id. A client may have 256 surfaces.
+    /// wl_compositor.create_surface: makes a surface under a free id. A client may have 256
+    /// surfaces.
     fn create_surface(&mut self, version: u32, id: u32)
         ensures answers { IsFree self.old id → AnswersDemand (λ r. demands (surface_created r id version)) self.old self.new }
         ensures rest { Leaves self.old self.new }
@@ -49,7 +50,7 @@ impl<A: Allocator + Copy> Resident<A> {
         }
     }
 
-    /// wl_compositor.create_region: a new region, which is empty, under a free id.
+    /// wl_compositor.create_region: makes an empty region under a free id.
     fn create_region(&mut self, version: u32, id: u32)
         ensures answers { IsFree self.old id → AnswersDemand (λ r. Ok (Asks (Own (CreateRegion id version)))) self.old self.new }
         ensures rest { Leaves self.old self.new }

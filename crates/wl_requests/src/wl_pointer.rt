@@ -1,4 +1,4 @@
-//! The requests of wl_pointer.
+//! The request of wl_pointer, an input device such as a mouse: set_cursor, which sets its image.
 
 ghost use Rattle.std.specs.Prelude.{ℕ};
 ghost use Rattle.wl_proto.specs.Messages.{wl_pointer_request};
@@ -13,8 +13,8 @@ use wl_proto::WlPointerRequest;
 use wl_surface::{Role, SurfaceNo};
 
 impl<A: Allocator + Copy> Resident<A> {
-    /// wl_pointer.set_cursor of a surface, which has the role of a cursor from then on. It is refused where the surface has another role or an
-    /// xdg_surface. No cursor is painted.
+    /// wl_pointer.set_cursor: the surface gets the role of a cursor. It is refused if it has
+    /// another role or an xdg_surface. No cursor is painted.
     fn set_cursor(&mut self, object: u32, surface: SurfaceNo)
         ensures answers { (id : ℕ) → IsSurface self.old id surface → AnswersDemand (λ r. cursor_set r object id) self.old self.new }
         ensures rest { Leaves self.old self.new }
@@ -29,7 +29,8 @@ impl<A: Allocator + Copy> Resident<A> {
         }
     }
 
-    /// A request of a wl_pointer whose wl_surface is there, if it names one. Without one it takes the cursor away, which has no effect.
+    /// A request of a wl_pointer whose wl_surface is there, if it names one. Without one it takes
+    /// the cursor away, which has no effect.
     pub(crate) fn wl_pointer(&mut self, object: u32, request: &WlPointerRequest)
         ensures answers { (version : ℕ) → ObjectsFit self.old (wl_pointer_request request.now)
             → AnswersDemand (λ r. demand_of r object version (wl_pointer_request request.now)) self.old self.new }

@@ -1,4 +1,5 @@
-//! The requests of wl_seat.
+//! The requests of wl_seat, a group of input devices: they make objects for these, here only a
+//! wl_pointer.
 
 ghost use Rattle.std.specs.Prelude.{ℕ, ◌≡◌, Ok, false, is_some, true};
 ghost use Rattle.wl_proto.specs.Messages.{wl_seat_request};
@@ -13,7 +14,8 @@ use wl_proto::{Interface, WlSeatRequest};
 use wl_table::Entry;
 
 impl<A: Allocator + Copy> Resident<A> {
-    /// wl_seat.get_pointer: a new wl_pointer under a free id. It is told nothing here. Where there is no room for it, memory runs out.
+    /// wl_seat.get_pointer: makes a wl_pointer under a free id. It is told nothing here. Without
+    /// room for it, the client ends as out of memory.
     fn get_pointer(&mut self, version: u32, id: u32, has_room: bool)
         ensures answers { IsFree self.old id → AnswersDemand (λ r. Ok (GetPointer id version)) self.old self.new }
         ensures rest { Leaves self.old self.new }

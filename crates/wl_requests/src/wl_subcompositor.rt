@@ -1,4 +1,4 @@
-//! The requests of wl_subcompositor.
+//! The requests of wl_subcompositor, which make a surface a subsurface of another.
 
 ghost use Rattle.std.specs.Prelude.{ℕ, ◌≡◌, Ok, OnOk};
 ghost use Rattle.wl_proto.specs.Messages.{wl_subcompositor_request};
@@ -16,7 +16,8 @@ use wl_proto::{Interface, WlSubcompositorRequest};
 use wl_surface::{SurfaceError, SurfaceNo};
 use wl_table::Entry;
 
-/// Why a surface isn't made a subsurface, with the wl_subcompositor that was asked: None where there is no memory.
+/// Why a surface isn't made a subsurface, as an error of the wl_subcompositor that was asked.
+/// `None` if there was no memory.
 fn refusal_of(object: u32, error: SurfaceError) -> Option<Refusal>
     ensures { result ≡ link_refused object error }
 {
@@ -38,7 +39,7 @@ impl<A: Allocator + Copy> Resident<A> {
         self.end_object(object);
     }
 
-    /// The child is linked to the parent by a new wl_subsurface with this id.
+    /// Links the child to the parent by a new wl_subsurface with this id.
     fn link(&mut self, id: u32, child: SurfaceNo, parent: SurfaceNo) -> Result<(), SurfaceError>
         ensures judged { LinksAsJudged self.old child parent result }
         ensures made { OnOk result (IsLinkMade id self.old self.new child parent) }
@@ -57,8 +58,9 @@ impl<A: Allocator + Copy> Resident<A> {
         Ok(())
     }
 
-    /// wl_subcompositor.get_subsurface: a new wl_subsurface, under a free id, of a surface below a parent. No tree has more than 16 levels below
-    /// its root, and a surface has one wl_subsurface, and no xdg_surface beside it.
+    /// wl_subcompositor.get_subsurface: makes a wl_subsurface, under a free id, of a surface below
+    /// a parent. No tree gets more than 16 levels below its root. A surface has one wl_subsurface,
+    /// and no xdg_surface beside it.
     fn get_subsurface(
         &mut self,
         object: u32,

@@ -1,4 +1,5 @@
-//! The requests of wl_subsurface. One whose link has ended, or whose surface is gone, is inert: it does nothing but go.
+//! The requests of wl_subsurface, which place a surface in its parent and say when its commits are
+//! applied. One whose link has ended, or whose surface is gone, is inert: it does nothing but go.
 
 ghost use Rattle.std.specs.Prelude.{ℕ, List, ◌≡◌, ◌==◌, filter, is_some, not, true, None, Some};
 ghost use Rattle.law_desktop.specs.Subsurfaces.{AreOfSurfaces};
@@ -35,7 +36,8 @@ impl<A: Allocator + Copy> Resident<A> {
         }
     }
 
-    /// wl_subsurface.set_position of the child, relative to its parent, in pixels: once the parent is committed and applied.
+    /// wl_subsurface.set_position of the child, in pixels relative to its parent's corner. It
+    /// counts once the parent is committed and applied.
     fn set_position(&mut self, object: u32, x: i32, y: i32)
         ensures answers { IsSubsurface self.old object → AnswersDemand (λ r. subsurface_demand r object (SetPosition x y)) self.old self.new }
         ensures rest { Leaves self.old self.new }
@@ -50,7 +52,8 @@ impl<A: Allocator + Copy> Resident<A> {
         }
     }
 
-    /// A child isn't placed beside a surface that is neither its parent nor another child of that, or where memory runs out.
+    /// Refuses to place a child: the sibling is neither its parent nor another child of that, or
+    /// memory runs out.
     fn refuse_place(&mut self, object: u32, error: SurfaceError)
         ensures ended { is_some self.new.client.ended ≡ true }
         ensures errs { error ≡ SurfaceError.NotSibling → (p : Peer) → IsPeer self.old.client p
@@ -68,8 +71,8 @@ impl<A: Allocator + Copy> Resident<A> {
         }
     }
 
-    /// wl_subsurface.place_above and place_below: the child stands right above or right below a sibling, or its parent, once the parent is
-    /// committed and applied.
+    /// wl_subsurface.place_above and place_below: the child stands right above or right below a
+    /// sibling or its parent. It counts once the parent is committed and applied.
     fn place(&mut self, object: u32, sibling: SurfaceNo, side: Side)
         ensures answers { (id : ℕ) → IsSubsurface self.old object → IsSurface self.old id sibling
             → AnswersDemand (λ r. subsurface_demand r object (place_asked side id)) self.old self.new }
@@ -85,7 +88,7 @@ impl<A: Allocator + Copy> Resident<A> {
         }
     }
 
-    /// wl_subsurface.set_sync: what the child commits is held until its parent is applied.
+    /// wl_subsurface.set_sync: the child's commits are held until its parent is applied.
     fn set_sync(&mut self, object: u32)
         ensures answers { IsSubsurface self.old object → AnswersDemand (λ r. subsurface_demand r object SetSync) self.old self.new }
         ensures rest { Leaves self.old self.new }
@@ -96,8 +99,8 @@ impl<A: Allocator + Copy> Resident<A> {
         }
     }
 
-    /// wl_subsurface.set_desync: what the child commits is applied at once, unless a surface above it is synchronised; and so is what was held,
-    /// where that changes how it behaves.
+    /// wl_subsurface.set_desync: the child's commits are applied at once, unless a surface above it
+    /// is synchronised. If that changes how the child behaves, its held state is applied too.
     fn set_desync(&mut self, object: u32, has_room: bool) -> Option<Applied<A>>
         ensures answers { IsSubsurface self.old object → AnswersDemand (λ r. subsurface_demand r object SetDesync) self.old self.new }
         ensures decides { (child : ℕ) → IsOnlyChild self.old object child → IsSubsurface self.old object
@@ -123,7 +126,8 @@ impl<A: Allocator + Copy> Resident<A> {
         Some(told.applied)
     }
 
-    /// A wl_subsurface goes whose link has ended: its surface, if that is there, may have another.
+    /// Removes a wl_subsurface whose link has ended. Its surface, if that is there, may have
+    /// another.
     fn forget(&mut self, object: u32)
         ensures subsurfaces { (numbers : ById ℕ) (subsurfaces : List Subsurface) → AreOfSurfaces self.old.subsurfaces numbers subsurfaces
             → ((a b number : ℕ) → numbers a ≡ Some number → numbers b ≡ Some number → a ≡ b)

@@ -1,4 +1,4 @@
-//! The requests of xdg_popup.
+//! The requests of xdg_popup, a short-lived surface beside its parent, as a menu.
 
 ghost use Rattle.std.specs.Prelude.{ℕ, ◌≡◌, ◌&&◌, ◌||◌, IfSome, None, [], is_some, not, true};
 ghost use Rattle.wl_proto.specs.Messages.{xdg_popup_request};
@@ -29,7 +29,7 @@ fn is_serial(serial: u32, other: Option<u32>) -> bool
 }
 
 impl Grabbing {
-    /// Whether a grab with this serial is allowed, where the parent of its popup allows it.
+    /// Whether a grab with this serial is allowed, if the parent of its popup allows it.
     fn allows(&self, serial: u32) -> bool
         ensures { result ≡ ((is_serial serial self.now.press || is_serial serial self.now.release) && not self.now.held_elsewhere) }
     {
@@ -38,7 +38,8 @@ impl Grabbing {
 }
 
 impl<A: Allocator + Copy> Resident<A> {
-    /// What applied nothing: no surface changes, no buffer is freed, and no callback goes.
+    /// An outcome that applied nothing: no surface changes, no buffer is freed, and no callback
+    /// goes.
     fn nothing_applied(&self) -> Applied<A>
         ensures { result.changes.items ≡ [] }
     {
@@ -50,8 +51,8 @@ impl<A: Allocator + Copy> Resident<A> {
         }
     }
 
-    /// xdg_popup.destroy: its id is given back. It is refused while a living popup has it as its parent. Where there is no room for the windows
-    /// that it leads to, its client is out of memory.
+    /// xdg_popup.destroy: its id is given back. It is refused while a living popup has it as its
+    /// parent. Without room for the windows that it leads to, its client ends as out of memory.
     fn destroy_popup(
         &mut self,
         object: u32,
@@ -83,9 +84,14 @@ impl<A: Allocator + Copy> Resident<A> {
         }
     }
 
-    /// xdg_popup.grab with this serial, of a popup that isn't mapped: it has the grab where the serial is that of the latest press or of the
-    /// latest release that its client was told of, no other client holds a grab, and its parent is a toplevel or a popup with one. Else it is
-    /// dismissed, with those that descend from it (xdg-shell.xml, xdg_popup.popup_done). Nothing is done where it was dismissed before.
+    /// xdg_popup.grab with this serial. The popup gets the grab if:
+    /// - it isn't mapped;
+    /// - the serial is that of the latest press or the latest release that its client was told of;
+    /// - no other client holds a grab;
+    /// - its parent is a toplevel or a popup with a grab.
+    ///
+    /// A mapped popup is refused. Else the popup is dismissed, with its descendants (xdg-shell.xml,
+    /// xdg_popup.popup_done). Nothing is done if it was dismissed before.
     fn grab(&mut self, object: u32, surface: SurfaceNo, serial: u32, grabbing: Grabbing)
         ensures answers { IsPopup self.old object surface → (seat : ℕ)
             → AnswersAllowed grabbing (Kind.Popup (Grab seat serial)) (λ r. popup_asked r object (xdg_with object r.owned.shell) (Grab seat serial)) self.old self.new }
@@ -102,8 +108,9 @@ impl<A: Allocator + Copy> Resident<A> {
         }
     }
 
-    /// xdg_popup.reposition by the positioner with this id: the popup has a copy of it. Where it was configured before, and isn't dismissed, it is
-    /// told with this token where it will stand, and its xdg_surface is configured. What it is placed by is handed in.
+    /// xdg_popup.reposition: the popup gets a copy of the positioner with this id. If it was
+    /// configured before and isn't dismissed, it is told with this token where it will stand, and
+    /// its xdg_surface is configured. `placing` says by what it is placed.
     fn reposition(
         &mut self,
         object: u32,
@@ -134,7 +141,8 @@ impl<A: Allocator + Copy> Resident<A> {
         }
     }
 
-    /// A request of the popup of a surface. What it is placed by, and what a grab is allowed by, is handed in.
+    /// A request of the popup of a surface. `given` says by what it is placed, and by what a grab
+    /// is allowed.
     pub(crate) fn xdg_popup(
         &mut self,
         object: u32,

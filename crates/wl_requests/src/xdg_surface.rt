@@ -1,4 +1,5 @@
-//! The requests of xdg_surface.
+//! The requests of xdg_surface, what toplevels and popups have in common: role objects, window
+//! geometry and configures.
 
 ghost use Rattle.std.specs.Prelude.{ℕ, ◌≡◌, ◌+◌, is_some, min, true};
 ghost use Rattle.wl_client.specs.Agreement.{IsPeer, most_counted};
@@ -32,7 +33,8 @@ pub(crate) struct PopupAsked {
     pub positioner: u32,
 }
 
-/// An error of the shell's with its object: the xdg_wm_base, the xdg_surface, wl_display, or else the object that was asked.
+/// An error of the shell's with its object: the xdg_wm_base, the xdg_surface, wl_display, or else
+/// the object that was asked.
 pub(crate) fn refusal_of(base: u32, xdg_surface: u32, object: u32, error: ShellError) -> Refusal
     ensures { result ≡ shell_refusal base xdg_surface object error }
 {
@@ -77,7 +79,7 @@ fn is_not_of_popup(role: Option<Role>) -> bool
 }
 
 impl<A: Allocator + Copy> Resident<A> {
-    /// The id of the xdg_surface of a surface; 0 where it has none.
+    /// The id of the xdg_surface of a surface; 0 if it has none.
     pub(crate) fn xdg_surface_of(&self, surface: SurfaceNo) -> u32
         ensures { result ≡ kept_id (kept_of self.now.owned.shell surface) }
     {
@@ -87,7 +89,7 @@ impl<A: Allocator + Copy> Resident<A> {
         }
     }
 
-    /// The id of the xdg_wm_base that made the xdg_surface of a surface; 0 where it has none.
+    /// The id of the xdg_wm_base that made the xdg_surface of a surface; 0 if it has none.
     fn base_of(&self, surface: SurfaceNo) -> u32
         ensures { result ≡ kept_base (kept_of self.now.owned.shell surface) }
     {
@@ -123,7 +125,8 @@ impl<A: Allocator + Copy> Resident<A> {
         }
     }
 
-    /// xdg_surface.get_toplevel: a new toplevel under a free id. The surface has the role of one from then on.
+    /// xdg_surface.get_toplevel: makes a toplevel under a free id. The surface gets the role of
+    /// one.
     fn get_toplevel(&mut self, object: u32, version: u32, surface: SurfaceNo, id: u32)
         ensures answers { IsXdgSurface self.old object surface → IsFree self.old id
             → AnswersDemand (λ r. demand_of r object version (xdg_surface_request (GetToplevel id))) self.old self.new }
@@ -149,7 +152,7 @@ impl<A: Allocator + Copy> Resident<A> {
         }
     }
 
-    /// xdg_surface.set_window_geometry of a rectangle in surface pixels.
+    /// xdg_surface.set_window_geometry: a rectangle in surface pixels.
     fn set_window_geometry(&mut self, object: u32, surface: SurfaceNo, rect: Rect)
         ensures answers { (version : ℕ) → IsXdgSurface self.old object surface
             → AnswersDemand (λ r. xdg_demand r object version (SetWindowGeometry rect.x rect.y rect.w rect.h)) self.old self.new }
@@ -194,15 +197,15 @@ impl<A: Allocator + Copy> Resident<A> {
         }
     }
 
-    /// The number of the request that is answered, up to the greatest of 64 bits.
+    /// The number of the request that is answered, at most the greatest of 64 bits.
     fn request_number(&self) -> u64
         ensures { result ≡ min (self.now.client.requests + 1) most_counted }
     {
         self.client.requests().saturating_add(1)
     }
 
-    /// xdg_surface.get_popup: a new popup under a free id, whose number is that of its request. The surface has the role of one from then on.
-    /// There is no memory for a number of more than 64 bits.
+    /// xdg_surface.get_popup: makes a popup under a free id, whose number is that of its request.
+    /// The surface gets the role of one. A number of more than 64 bits counts as no memory.
     fn get_popup(&mut self, object: u32, version: u32, surface: SurfaceNo, asked: &PopupAsked)
         ensures answers { IsXdgSurface self.old object surface → IsFree self.old asked.now.id
             → ObjectsFit self.old (xdg_surface_request (GetPopup asked.now.id asked.now.parent asked.now.positioner))
@@ -240,7 +243,8 @@ impl<A: Allocator + Copy> Resident<A> {
         }
     }
 
-    /// A request of the xdg_surface of a surface, whose new id is free, and whose objects are there.
+    /// A request of the xdg_surface of a surface, whose new id is free, and whose objects are
+    /// there.
     pub(crate) fn xdg_surface(
         &mut self,
         object: u32,

@@ -1,4 +1,5 @@
-//! The requests of xdg_toplevel.
+//! The requests of xdg_toplevel, a window of the desktop: its states, its sizes and titles, and
+//! moving it.
 
 ghost use Rattle.std.specs.Prelude.{◌≡◌, ℕ};
 ghost use Rattle.wl_proto.specs.declared.interface.Interface.TheVariants.{XdgToplevel};
@@ -14,20 +15,22 @@ use std::alloc::Allocator;
 use wl_proto::XdgToplevelRequest;
 use wl_surface::SurfaceNo;
 
-/// What a request of a toplevel comes to.
+/// What a request of a toplevel leads to.
 #[derive(Clone, Copy, Debug, PartialEq, Eq)]
 pub enum ToplevelAsked {
     /// It goes.
     Destruction,
-    /// Another state is asked for, as by set_maximized: it is configured again, if it was configured before.
+    /// Another state is asked for, as by set_maximized: the toplevel is configured again, if it was
+    /// configured before.
     Configure,
-    /// It is to be moved with the pointer, by the serial of a press (xdg-shell.xml, xdg_toplevel.move).
+    /// It is to be moved with the pointer, by the serial of a press (xdg-shell.xml,
+    /// xdg_toplevel.move).
     Move { serial: u32 },
     /// It has no effect.
     Nothing,
 }
 
-/// What a request comes to.
+/// What a request leads to.
 pub(crate) fn asked_of(request: &XdgToplevelRequest) -> ToplevelAsked
     ensures { result ≡ asked_by (toplevel_request (xdg_toplevel_request request.now).opcode (xdg_toplevel_request request.now).fields) }
 {
@@ -50,8 +53,8 @@ pub(crate) fn asked_of(request: &XdgToplevelRequest) -> ToplevelAsked
 }
 
 impl<A: Allocator + Copy> Resident<A> {
-    /// xdg_toplevel.destroy: its id is given back, and the popups on it, and those that descend from them, are dismissed (xdg-shell.xml,
-    /// xdg_popup.popup_done). They have no parent any more.
+    /// xdg_toplevel.destroy: its id is given back. The popups on it and their descendants are
+    /// dismissed, and have no parent any more (xdg-shell.xml, xdg_popup.popup_done).
     fn destroy_toplevel(&mut self, object: u32, surface: SurfaceNo)
         ensures answers { IsToplevel self.old object surface → AnswersDemand (λ r. toplevel_destroyed object (xdg_with object r.owned.shell)) self.old self.new }
         ensures rest { Leaves self.old self.new }
@@ -63,7 +66,8 @@ impl<A: Allocator + Copy> Resident<A> {
         self.owned.shell.destroy_toplevel(surface);
     }
 
-    /// A request for another state, as xdg_toplevel.set_maximized: the toplevel is configured again, if it was configured before.
+    /// A request for another state, as xdg_toplevel.set_maximized: configures the toplevel again,
+    /// if it was configured before.
     fn configure_again(&mut self, object: u32, surface: SurfaceNo)
         ensures answers { IsToplevel self.old object surface → AnswersDemand (λ r. demands (state_asked (xdg_with object r.owned.shell))) self.old self.new }
         ensures rest { Leaves self.old self.new }
@@ -81,7 +85,7 @@ impl<A: Allocator + Copy> Resident<A> {
         }
     }
 
-    /// A request of the toplevel of a surface, which comes to this.
+    /// A request of the toplevel of a surface, which leads to this.
     pub(crate) fn xdg_toplevel(
         &mut self,
         object: u32,

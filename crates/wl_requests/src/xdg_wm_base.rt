@@ -1,4 +1,4 @@
-//! The requests of xdg_wm_base.
+//! The requests of xdg_wm_base, with which a client makes its surfaces windows of the desktop.
 
 ghost use Rattle.std.specs.Prelude.{ℕ, ◌≡◌, ◌↔◌, IsTrue, Ok};
 ghost use Rattle.wl_proto.specs.Messages.{xdg_wm_base_request};
@@ -39,7 +39,7 @@ fn is_memory(error: ShellError) -> bool
 }
 
 impl<A: Allocator + Copy> Resident<A> {
-    /// A request that has no effect is counted.
+    /// Counts a request that has no effect.
     pub(crate) fn ignore(&mut self)
         ensures answers { AnswersDemand (λ r. Ok (Asks Ignore)) self.old self.new }
         ensures rest { Leaves self.old self.new }
@@ -47,7 +47,7 @@ impl<A: Allocator + Copy> Resident<A> {
         self.client.count();
     }
 
-    /// A request past a limit is refused: wl_display.error, implementation.
+    /// Refuses a request past a limit: wl_display.error, implementation.
     pub(crate) fn refuse_past_limit(&mut self)
         ensures answers { AnswersDemand (λ r. past_limit) self.old self.new }
         ensures rest { Leaves self.old self.new }
@@ -67,7 +67,7 @@ impl<A: Allocator + Copy> Resident<A> {
         }
     }
 
-    /// An object goes with which nothing else of the client does: its id is given back.
+    /// Removes an object with which nothing else of the client goes, and gives its id back.
     pub(crate) fn end_object(&mut self, object: u32)
         ensures does { GoesAlone self.old object → Does (λ r. EndObject object) self.old self.new }
         ensures rest { Leaves self.old self.new }
@@ -91,7 +91,7 @@ impl<A: Allocator + Copy> Resident<A> {
         }
     }
 
-    /// xdg_wm_base.create_positioner: a new positioner, for which nothing is set, under a free id.
+    /// xdg_wm_base.create_positioner: makes a positioner under a free id, for which nothing is set.
     fn create_positioner(&mut self, version: u32, id: u32)
         ensures answers { IsFree self.old id → AnswersDemand (λ r. Ok (Asks (Own (CreatePositioner id version)))) self.old self.new }
         ensures rest { Leaves self.old self.new }
@@ -100,7 +100,8 @@ impl<A: Allocator + Copy> Resident<A> {
         self.client.create_positioner(id, version);
     }
 
-    /// xdg_wm_base.get_xdg_surface: a new xdg_surface, under a free id, of the surface with this number.
+    /// xdg_wm_base.get_xdg_surface: makes an xdg_surface under a free id, for the surface with this
+    /// number.
     fn get_xdg_surface(&mut self, object: u32, version: u32, id: u32, surface: SurfaceNo)
         ensures answers { (named : ℕ) → IsFree self.old id → IsSurface self.old named surface
             → AnswersDemand (λ r. demands (xdg_surface_made r object version id named)) self.old self.new }

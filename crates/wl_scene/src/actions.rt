@@ -16,20 +16,22 @@ pub struct Target {
     pub surface: u32,
 }
 
-/// What the pointer does to surfaces and toplevels, each by its client and the id of its wl_surface.
+/// What the pointer does to surfaces and toplevels. Each is named by its client and the id of its
+/// wl_surface.
 #[derive(Clone, Copy, Debug, PartialEq, Eq)]
 pub enum Action {
     /// The surface is left (wayland.xml, wl_pointer.leave).
     Leave(Target),
     /// The surface is entered (wayland.xml, wl_pointer.enter).
     Enter(Target),
-    /// The surface is told of a motion at a time in milliseconds (wayland.xml, wl_pointer.motion).
+    /// The surface is told of a motion, at a time in milliseconds (wayland.xml, wl_pointer.motion).
     Motion(u32, Target),
-    /// The surface is told that at a time in milliseconds a button was pressed, or else released (wayland.xml, wl_pointer.button).
+    /// The surface is told that a button was pressed (true) or released, at a time in milliseconds
+    /// (wayland.xml, wl_pointer.button).
     Button(u32, u32, bool, Target),
     /// The toplevel comes to the top.
     Raise(Target),
-    /// The toplevel goes so many pixels to the right and down.
+    /// The toplevel moves this many pixels to the right and down.
     MoveWindow(Target, i64, i64),
     /// The popups with a grab of this client are dismissed (xdg-shell.xml, xdg_popup.popup_done).
     Dismiss(u32),
@@ -38,7 +40,7 @@ pub enum Action {
 /// What the pointer does, one after another.
 pub type Actions = ArrayVec<Action, 8>;
 
-/// What stands in a place of [`Actions`] that isn't taken: it is never seen.
+/// What stands in a free place of [`Actions`]. It is never seen.
 impl Default for Action {
     fn default() -> Self {
         Action::Dismiss(0)
@@ -55,7 +57,7 @@ fn push_some(actions: &mut Actions, action: Option<Action>)
     }
 }
 
-/// These, as far as they are there, in this order.
+/// Those of these that are there, in this order.
 pub(crate) fn listed(
     first: Option<Action>,
     second: Option<Action>,
@@ -119,7 +121,8 @@ pub(crate) fn raise(toplevel: Option<Target>) -> Option<Action>
     Some(Action::Raise(toplevel?))
 }
 
-/// The popups with a grab of the client that holds one are dismissed, unless the press hits a surface of it.
+/// Dismisses the popups with a grab of the client that holds one, unless the press hits a surface
+/// of that client.
 pub(crate) fn dismiss(holder: Option<u32>, toplevel: Option<Target>) -> Option<Action>
     ensures { (w : Option Window) → toplevel_of w ≡ target_or_none toplevel → action_or_none result ≡ dismiss_of holder w }
 {

@@ -27,7 +27,7 @@ fn held_sum(place: i32, by: i32) -> i32
     held(i64::from(place) + i64::from(by))
 }
 
-/// So far from a coordinate, and back by another distance, in pixels, held within the bounds.
+/// A coordinate plus a distance, less another one, in pixels, held within the bounds.
 fn held_difference(place: i32, by: i32, back: i32) -> i32
     ensures { result ≡ within_bounds ((place +ℤ by) -ℤ back) }
 {
@@ -41,7 +41,7 @@ fn origin() -> Point
     Point { x: 0, y: 0 }
 }
 
-/// A point so many pixels to the right and down.
+/// The point this many pixels to the right and down.
 fn moved(from: Point, right: i32, down: i32) -> Point
     ensures { place_of result ≡ moved (place_of from) right down }
 {
@@ -50,7 +50,8 @@ fn moved(from: Point, right: i32, down: i32) -> Point
     Point { x, y }
 }
 
-/// The corner of a window geometry of a surface with its corner there: that of the surface where none is set.
+/// The corner of a window geometry, for a surface with this corner. It is the surface's own if no
+/// geometry is set.
 fn geometry_corner(corner: Point, geometry: Option<Rect>) -> Point
     ensures { place_of result ≡ geometry_corner (place_of corner) geometry }
 {
@@ -86,7 +87,8 @@ fn placement_of(placement: Option<Placed>) -> Point
     }
 }
 
-/// The place of a popup in the output, whose parent's window geometry stands there (xdg-shell.xml, xdg_popup).
+/// The place of a popup in the output, if its parent's window geometry stands at `at`
+/// (xdg-shell.xml, xdg_popup).
 pub(crate) fn popup_place(at: Point, placement: Option<Placed>, geometry: Option<Rect>) -> Point
     ensures { (p : StackedPopup) → p.placement ≡ placement_of placement → p.geometry ≡ geometry
         → place_of result ≡ popup_place (place_of at) p }
@@ -98,7 +100,7 @@ pub(crate) fn popup_place(at: Point, placement: Option<Placed>, geometry: Option
     Point { x, y }
 }
 
-/// The corner of a surface that is placed there: its place plus its offset.
+/// The corner of a surface that is placed at `place`: that plus its offset.
 fn corner_of<A: Allocator + Copy>(surfaces: &Surfaces<A>, surface: SurfaceNo, place: Point) -> Point
     ensures { (all : Asked) → Stand surfaces.now.states surfaces.now.family all
         → place_of result ≡ corner_or (place_of place) (history_in surface all) }
@@ -109,7 +111,7 @@ fn corner_of<A: Allocator + Copy>(surfaces: &Surfaces<A>, surface: SurfaceNo, pl
     }
 }
 
-/// The corner of this window geometry of a surface that is placed there.
+/// The corner of this window geometry, for a surface that is placed there.
 pub(crate) fn geometry_at<A: Allocator + Copy>(
     surfaces: &Surfaces<A>,
     surface: SurfaceNo,
@@ -123,14 +125,14 @@ pub(crate) fn geometry_at<A: Allocator + Copy>(
     geometry_corner(corner, geometry)
 }
 
-/// The window geometry of the xdg_surface of a surface that counts, if there is one.
+/// The window geometry of a surface's xdg_surface that counts, if there is one.
 pub(crate) fn geometry_of<A: Allocator>(shell: &Shell<A>, surface: SurfaceNo) -> Option<Rect>
     ensures { result ≡ kept_geometry shell.now surface }
 {
     shell.get(surface)?.window_geometry()
 }
 
-/// The place of the toplevel of a surface, which is the upper left corner of the output where it isn't mapped.
+/// The place of a surface's toplevel: (0, 0) of the output if it isn't mapped.
 fn toplevel_place<A: Allocator>(scene: &Scene<A>, surface: Surface) -> Point
     ensures { place_of result ≡ standing_place scene.now.standing surface.client surface.surface }
 {
@@ -164,7 +166,8 @@ fn toplevel_corner<A: Allocator + Copy>(
     origin()
 }
 
-/// The corner of the window geometry of the xdg_surface of a surface, with so many parents of it that are looked at.
+/// The corner of the window geometry of a surface's xdg_surface. It looks at this many parents at
+/// most.
 #[cycle(chain)]
 fn surface_corner<A: Allocator + Copy>(
     scene: &Scene<A>,
@@ -193,7 +196,8 @@ fn surface_corner<A: Allocator + Copy>(
     )
 }
 
-/// The corner of the window geometry of the xdg_surface of this id, down a chain of so many.
+/// The corner of the window geometry of the xdg_surface of this id. It looks at this many parents
+/// at most.
 #[cycle(chain)]
 fn xdg_corner<A: Allocator + Copy>(
     scene: &Scene<A>,
@@ -214,7 +218,7 @@ fn xdg_corner<A: Allocator + Copy>(
     surface_corner(scene, client, owned, levels - 1, surface)
 }
 
-/// The corner of the window geometry of a popup's parent, down a chain of so many.
+/// The corner of the window geometry of a popup's parent. It looks at this many parents at most.
 #[cycle(chain)]
 fn corner_at_parent<A: Allocator + Copy>(
     scene: &Scene<A>,
@@ -232,9 +236,10 @@ fn corner_at_parent<A: Allocator + Copy>(
     }
 }
 
-/// Where the window geometry of the parent of a client's popup stands in the output in pixels, by the id of the parent's xdg_surface: that of
-/// a toplevel at its place, which is (0, 0) where it isn't mapped, and that of a popup where it was placed last on its own parent. It is
-/// (0, 0) where there is no parent, and where that has no role object (xdg-shell.xml, xdg_popup and xdg_positioner).
+/// Where the window geometry of a popup's parent stands, in pixels of the output, by the id of the
+/// parent's xdg_surface (xdg-shell.xml, xdg_popup and xdg_positioner). A toplevel's stands at its
+/// place, which is (0, 0) if it isn't mapped. A popup's stands where it was placed last on its own
+/// parent. Without a parent, or if the parent has no role object, the answer is (0, 0).
 pub fn parent_corner<A: Allocator + Copy>(
     scene: &Scene<A>,
     client: u32,

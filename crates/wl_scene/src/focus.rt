@@ -1,4 +1,5 @@
-//! The pointer: where it is, what is pressed, which surface has its focus, and which toplevel it moves.
+//! The pointer: where it is, what is pressed, which surface has its focus, and which toplevel it
+//! moves.
 
 ghost use Rattle.std.specs.Prelude.{◌≡◌, ◌++◌, ◌∷◌, ◌-ℤ◌, [], true, false, IsTrue, ◌↔◌, List, None, Some, map};
 ghost use Rattle.std.specs.Option.{option_map};
@@ -21,10 +22,15 @@ pub struct Point {
     pub y: i32,
 }
 
-/// The pointer (wayland.xml, wl_pointer). It is seen as its place in the output, once it has one; the buttons that are down, 16 at most;
-/// the serial of the press that began the present hold, where it was sent; the surface that has its focus; and the toplevel that it moves.
+/// The pointer (wayland.xml, wl_pointer). Contracts see it as these values:
+/// - its place in the output, once it has one;
+/// - the buttons that are down, at most 16;
+/// - the serial of the press that began the present hold, if the press was sent;
+/// - the surface that has its focus;
+/// - the toplevel that it moves.
 ///
-/// It is told what it hits, and not the windows; what it does is to be done by the caller, one after another.
+/// It doesn't know the windows: each call is told what the pointer hits. The caller has to do the
+/// actions that a call answers, one after another.
 #[derive(Drop)]
 pub struct Focus {
     place: Option<Point>,
@@ -57,7 +63,7 @@ fn between(from: i32, to: i32) -> i64
     i64::from(to) - i64::from(from)
 }
 
-/// The toplevel that is moved goes along by the difference between the two places.
+/// The toplevel that is moved goes along, by the difference between the two places.
 fn drag(from: Option<Point>, to: Point, moved: Option<Target>) -> Option<Action>
     ensures { action_or_none result ≡ move_of (option_map place_of from) (place_of to) (target_or_none moved) }
 {
@@ -74,7 +80,7 @@ fn unless_of(client: u32, surface: Option<Target>) -> Option<Target>
     surface.filter(|surface| surface.client != client)
 }
 
-/// The button isn't down any more.
+/// Notes that the button isn't down any more.
 fn remove(buttons: &mut ArrayVec<u32, MOST_BUTTONS>, button: u32)
     ensures { buttons.new.items ≡ without_button button buttons.old.items }
 {
@@ -82,7 +88,7 @@ fn remove(buttons: &mut ArrayVec<u32, MOST_BUTTONS>, button: u32)
 }
 
 impl Focus {
-    /// The pointer isn't anywhere, no button is down and no surface has the focus.
+    /// A pointer without a place, with no button down and without a focus.
     pub fn new() -> Self
         ensures { result ≡ first_pointer }
     {
@@ -102,7 +108,7 @@ impl Focus {
         self.place
     }
 
-    /// The serial of the press that began the present hold, where it was sent.
+    /// The serial of the press that began the present hold, if the press was sent.
     pub fn hold(&self) -> Option<u32>
         ensures { result ≡ self.now.hold }
     {
@@ -123,21 +129,21 @@ impl Focus {
         self.moved
     }
 
-    /// No button is down.
+    /// Whether no button is down.
     pub fn is_free(&self) -> bool
         ensures { IsTrue result ↔ (self.now.buttons ≡ []) }
     {
         self.buttons.is_empty()
     }
 
-    /// The button is down.
+    /// Whether the button is down.
     pub fn is_down(&self, button: u32) -> bool
         ensures { result ≡ is_down button self.now.buttons }
     {
         self.buttons.contains(&button)
     }
 
-    /// A press of the button counts: the button isn't down already, and fewer than 16 are.
+    /// Whether a press of the button counts: it isn't down already, and fewer than 16 are.
     pub fn is_press(&self, button: u32) -> bool
         ensures { result ≡ is_press button self.now.buttons }
     {
@@ -154,7 +160,8 @@ impl Focus {
         if is_stacked { self.focus } else { None }
     }
 
-    /// Another surface, or none, has the focus: the old one is left and the new one entered. Where it stays, so much is done.
+    /// Gives the focus to another surface, or to none: the old one is left and the new one entered.
+    /// If it stays, the action `staying` is done, if there is one.
     fn refocus(&mut self, focus: Option<Target>, staying: Option<Action>) -> Actions
         ensures acts { (ws : List Window) → target_or_none focus ≡ settled self.old ws
             → map action_of result.items ≡ focus_or (action_or_none staying) self.old ws }
@@ -168,9 +175,10 @@ impl Focus {
         actions::listed(actions::leave(old), actions::enter(focus), None)
     }
 
-    /// The windows may have changed: where the focus moves, the surface that had it is left and the one that has it now is entered
-    /// (wayland.xml, wl_pointer.leave and wl_pointer.enter). It is told which surface the pointer hits, which counts only where no button
-    /// is down, and whether the surface that has the focus is among the windows, which counts only where one is.
+    /// The windows may have changed. If the focus moves, the old surface is left and the new one
+    /// entered (wayland.xml, wl_pointer.leave and wl_pointer.enter). `hit` is the surface that the
+    /// pointer hits; it counts only while no button is down. `is_stacked` says whether the focused
+    /// surface is among the windows; it counts only while a button is down.
     pub fn settle(&mut self, hit: Option<Target>, is_stacked: bool) -> Actions
         ensures acts { (ws : List Window) → IsSeen (target_or_none hit) is_stacked self.old ws
             → map action_of result.items ≡ actions Settle self.old ws }
@@ -181,7 +189,7 @@ impl Focus {
         self.refocus(focus, None)
     }
 
-    /// The pointer goes to a point of the output in pixels; a toplevel that is moved goes along.
+    /// The pointer moves to a point of the output, in pixels. A toplevel that is moved goes along.
     pub fn motion(&mut self, to: Point) -> Actions
         ensures acts { (ws : List Window) → map action_of result.items ≡ actions (GoTo (place_of to)) self.old ws }
         ensures keeps { self.new ≡ record self.old { place = Some (place_of to) } }
@@ -191,9 +199,10 @@ impl Focus {
         actions::listed(drag, None, None)
     }
 
-    /// The pointer went where it is, at a time in milliseconds: where the focus stays, its surface is told of the motion (wayland.xml,
-    /// wl_pointer.motion), unless a toplevel is moved; where it moves, the surface that had it is left and the one that has it now is
-    /// entered. It is told of the windows what [`Focus::settle`] is.
+    /// The pointer moved, at a time in milliseconds. If the focus stays, its surface is told of the
+    /// motion (wayland.xml, wl_pointer.motion), unless a toplevel is moved. If the focus moves, the
+    /// old surface is left and the new one entered. What it is told of the windows is as for
+    /// [`Focus::settle`].
     pub fn went(&mut self, time: u32, hit: Option<Target>, is_stacked: bool) -> Actions
         ensures acts { (ws : List Window) → IsSeen (target_or_none hit) is_stacked self.old ws
             → map action_of result.items ≡ actions (Went time) self.old ws }
@@ -205,9 +214,12 @@ impl Focus {
         self.refocus(focus, staying)
     }
 
-    /// A button is pressed at a time in milliseconds, while a client holds a grab, or none does: the toplevel that holds what the pointer
-    /// hits comes to the top, the popups with a grab of a client of which nothing is hit are dismissed, and the focus is told of the press
-    /// (wayland.xml, wl_pointer.button; xdg-shell.xml, xdg_popup.grab). Nothing happens where the button is down already or 16 are.
+    /// A button is pressed, at a time in milliseconds, and a client may hold a grab. Nothing
+    /// happens if the button is down already, or 16 are. Else, in this order:
+    /// - the toplevel comes to the top that holds what the pointer hits;
+    /// - the popups with a grab are dismissed if nothing of their client is hit (xdg-shell.xml,
+    ///   xdg_popup.grab);
+    /// - the focus is told of the press (wayland.xml, wl_pointer.button).
     pub fn press(
         &mut self,
         time: u32,
@@ -233,7 +245,7 @@ impl Focus {
         )
     }
 
-    /// Where no button is down, nothing is held and nothing is moved.
+    /// If no button is down, nothing is held and nothing is moved any more.
     fn end_if_free(&mut self)
         ensures { self.new ≡ with_buttons self.old.buttons self.old }
     {
@@ -243,8 +255,9 @@ impl Focus {
         }
     }
 
-    /// A button is released at a time in milliseconds, and the focus is told of it (wayland.xml, wl_pointer.button). After the last one
-    /// nothing is held, and nothing is moved. Nothing happens where the button isn't down.
+    /// A button is released, at a time in milliseconds, and the focus is told of it (wayland.xml,
+    /// wl_pointer.button). After the last one nothing is held, and nothing is moved. Nothing
+    /// happens if the button isn't down.
     pub fn release(&mut self, time: u32, button: u32) -> Actions
         ensures acts { is_down button self.old.buttons ≡ true
             → (ws : List Window) → map action_of result.items ≡ actions (Release time button) self.new ws }
@@ -260,21 +273,23 @@ impl Focus {
         actions::listed(actions::button(time, button, false, self.focus), None, None)
     }
 
-    /// The present hold was begun by the press of this serial; by none, where the press was sent to nobody.
+    /// Notes the serial of the press that began the present hold; none, if the press was sent to
+    /// nobody.
     pub fn begin_hold(&mut self, serial: Option<u32>)
         ensures { self.new ≡ record self.old { hold = serial } }
     {
         self.hold = serial;
     }
 
-    /// Motions move this toplevel from now on (xdg-shell.xml, xdg_toplevel.move). That it may be moved is the caller's condition.
+    /// Motions move this toplevel from now on (xdg-shell.xml, xdg_toplevel.move). The caller makes
+    /// sure that it may be moved.
     pub fn begin_move(&mut self, toplevel: Target)
         ensures { self.new ≡ record self.old { move = Some (target_of toplevel) } }
     {
         self.moved = Some(toplevel);
     }
 
-    /// Motions move no toplevel any more, as where the one that is moved isn't mapped any more.
+    /// Motions move no toplevel any more, since the one that is moved was unmapped.
     pub fn end_move(&mut self)
         ensures { self.new ≡ record self.old { move = None } }
     {

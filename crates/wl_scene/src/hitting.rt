@@ -38,7 +38,7 @@ pub trait Surfaced {
         ensures { slots_or_none (option_copied result) ≡ slots self.now client };
 }
 
-/// What counts of a surface, if it is there.
+/// The applied state of a surface, if it is there.
 pub fn current_of<A: Allocator>(
     surfaces: Option<&SurfaceStates<A>>,
     surface: SurfaceNo,
@@ -108,8 +108,9 @@ fn surface_takes<A: Allocator>(
     region_takes(current.input, right, down)
 }
 
-/// Whether a window of the output takes the input at a point of the output, in pixels, by its client's surfaces: the point lies in the
-/// window, and its surface's applied input region holds it (wayland.xml, wl_surface.set_input_region).
+/// Whether a window takes the input at a point, in pixels of the output: the point lies in the
+/// window, and its surface's applied input region holds it (wayland.xml,
+/// wl_surface.set_input_region).
 pub fn takes_input<A: Allocator>(
     stacked: &Stacked,
     surfaces: Option<&SurfaceStates<A>>,
@@ -123,8 +124,8 @@ pub fn takes_input<A: Allocator>(
     contains(&stacked.window, x, y) && surface_takes(surfaces, &stacked.window, x, y)
 }
 
-/// The window of the output that a point of the output, in pixels, hits: the topmost that takes the input there (wayland.xml,
-/// wl_surface.set_input_region).
+/// The window that a point hits, in pixels of the output: the topmost that takes the input there
+/// (wayland.xml, wl_surface.set_input_region).
 pub fn hit<S: Surfaced>(windows: &[Stacked], clients: &S, x: i32, y: i32) -> Option<Stacked>
     ensures { (numbers : ℕ → ById ℕ) (d : Desktop) → AreKept (S.slots clients.now) numbers windows.now d
         → IsStackedOrNone numbers result (hit_of x y (all_windows d)) }
@@ -161,12 +162,13 @@ pub fn is_among(windows: &[Stacked], client: u32, surface: SurfaceNo) -> bool
     has_window(windows, client, surface)
 }
 
-/// By the numbers of surfaces a point hits the window that stands for the one that it hits.
+/// A hit found by the numbers of surfaces is the window of the surface that the point hits.
 pub fn hits_by_numbers()
     ensures { HitsByNumbers }
 {}
 
-/// Settled by the numbers of surfaces, the focus is the same surface as settled by their ids, and it moves where that does.
+/// The focus settled by the numbers of surfaces is the same surface as settled by their ids, and
+/// moves when that does.
 pub fn settles_by_numbers()
     ensures { SettlesByNumbers }
 {}

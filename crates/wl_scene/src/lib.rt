@@ -1,5 +1,10 @@
-//! The scene: the mapped toplevels from bottom to top and where they stand, the windows of the output that their trees of surfaces and those of
-//! their popups make, what a point hits of them, what of the output is marked where they change, and the pointer with its focus.
+//! The scene: the mapped toplevels from bottom to top, the windows of the output, what a point
+//! hits, what is marked when windows change, and the pointer. Begin with [`Scene`], then
+//! [`StackedWindows`] and [`Focus`]. When toplevels and windows change is left to wl_clients, and
+//! when the pointer does to wl_desk.
+//!
+//! The windows of a toplevel are those of its tree of surfaces, and those of the trees of its
+//! popups.
 #![tactic(auto)]
 
 ghost use Rattle.wl_scene.specs.Stacked.{ReplacesARun, ReplacesNothing};
@@ -50,12 +55,13 @@ pub use tree_window::TreeWindow;
 pub use tree_windows::add_windows;
 pub use window::Window;
 
-/// Where other windows of a toplevel take the place of those that stand together, what is below and above them stays.
+/// When other windows of a toplevel take the place of those that stand together, those below and
+/// above stay.
 pub fn replaces_a_run()
     ensures { ReplacesARun }
 {}
 
-/// Other windows of a toplevel that has none there change nothing.
+/// Replacing the windows of a toplevel that has none changes nothing.
 pub fn replaces_nothing()
     ensures { ReplacesNothing }
 {}

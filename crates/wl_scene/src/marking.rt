@@ -13,7 +13,7 @@ use wl_paint::Damage;
 /// How many rectangles of a surface's damage count one by one.
 const MAX_RECTS: usize = 1_024;
 
-/// All points of a window are marked, if there is one.
+/// Marks all points of a window, if there is one.
 pub fn mark_window<A: Allocator>(damage: &mut Damage<A>, window: Option<TreeWindow>)
     ensures points { (x y : ℕ) → x < damage.old.width → y < damage.old.height → has damage.new x y ≡ (has damage.old x y || any_window_has (pos x) (pos y) window) }
     ensures sides { IsAsLarge damage.old damage.new }
@@ -23,8 +23,9 @@ pub fn mark_window<A: Allocator>(damage: &mut Damage<A>, window: Option<TreeWind
     }
 }
 
-/// The points of a window are marked that its surface's damage holds: these rectangles in surface pixels, cut to the surface; more than 1,024
-/// damage all of it (wayland.xml, wl_surface.damage).
+/// Marks the points of a window that its surface's damage holds (wayland.xml, wl_surface.damage).
+/// The rectangles are in pixels of the surface, and are cut to it. More than 1,024 of them damage
+/// all of it.
 pub fn mark_damage<A: Allocator>(damage: &mut Damage<A>, window: TreeWindow, rects: &[Rect])
     ensures points { (x y : ℕ) → x < damage.old.width → y < damage.old.height
         → has damage.new x y ≡ (has damage.old x y || is_window_damaged rects.now (pos x) (pos y) window) }

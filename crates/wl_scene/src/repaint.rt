@@ -19,7 +19,7 @@ fn are_same(was: &[TreeWindow], is: &[TreeWindow]) -> bool
     was == is
 }
 
-/// All points of these windows are marked.
+/// Marks all points of these windows.
 pub fn mark_windows<A: Allocator>(damage: &mut Damage<A>, windows: &[TreeWindow])
     ensures points { (x y : ℕ) → x < damage.old.width → y < damage.old.height
         → has damage.new x y ≡ (has damage.old x y || list_any (window_has (pos x) (pos y)) windows.now) }
@@ -30,7 +30,8 @@ pub fn mark_windows<A: Allocator>(damage: &mut Damage<A>, windows: &[TreeWindow]
     }
 }
 
-/// The points of a window are marked that the damage of a change holds, if the window is of its surface (wayland.xml, wl_surface.damage).
+/// Marks the points of a window that the damage of a change holds, if the window is of its surface
+/// (wayland.xml, wl_surface.damage).
 fn mark_struck<A: Allocator>(damage: &mut Damage<A>, window: &TreeWindow, change: &Change<A>)
     ensures points { (x y : ℕ) → x < damage.old.width → y < damage.old.height
         → has damage.new x y ≡ (has damage.old x y || is_struck_by change.now (pos x) (pos y) window.now) }
@@ -41,7 +42,8 @@ fn mark_struck<A: Allocator>(damage: &mut Damage<A>, window: &TreeWindow, change
     }
 }
 
-/// The points are marked that the damage of a change holds at the windows of its surface. Where it has none they aren't looked through.
+/// Marks the damage of a change at the windows of its surface. Without damage they aren't looked
+/// through.
 fn mark_surface<A: Allocator>(damage: &mut Damage<A>, windows: &[TreeWindow], change: &Change<A>)
     ensures points { (x y : ℕ) → x < damage.old.width → y < damage.old.height
         → has damage.new x y ≡ (has damage.old x y || is_damaged_by windows.now (pos x) (pos y) change.now) }
@@ -55,7 +57,7 @@ fn mark_surface<A: Allocator>(damage: &mut Damage<A>, windows: &[TreeWindow], ch
     }
 }
 
-/// The points are marked that the damage of one of these changes holds at the windows of its surface.
+/// Marks the damage of each of these changes at the windows of its surface.
 fn mark_surfaces<A: Allocator>(
     damage: &mut Damage<A>,
     windows: &[TreeWindow],
@@ -70,9 +72,12 @@ fn mark_surfaces<A: Allocator>(
     }
 }
 
-/// What a call marks that changed one tree of surfaces, by the tree's windows before and after it, and what it applied to surfaces: where the
-/// windows are the same, the damage of the surfaces, in surface pixels, moved to their windows; else all points of the windows, as they were
-/// and as they are (wayland.xml, wl_surface.damage and wl_subsurface).
+/// Marks what a call changed of one tree of surfaces (wayland.xml, wl_surface.damage and
+/// wl_subsurface). `was` and `is` are the tree's windows before and after it, `changes` what it
+/// applied to surfaces.
+///
+/// If the windows are the same, it marks the damage of the surfaces, in surface pixels, moved to
+/// their windows. Else it marks all points of the windows, as they were and as they are.
 pub fn mark_tree<A: Allocator>(
     damage: &mut Damage<A>,
     was: &[TreeWindow],

@@ -12,7 +12,7 @@ use std::alloc::Allocator;
 use wl_paint::Damage;
 use wl_surface::{Change, SurfaceNo};
 
-/// How many windows stand below the lowest of the tree of a root, all of them where it has none.
+/// How many windows stand below the lowest of the tree of a root; all, if it has none.
 fn count_below(windows: &[TreeWindow], root: SurfaceNo) -> usize
     ensures below { result ≡ position_or_len (λ w. root == w.root) windows.now }
     ensures few { result ≤ length windows.now }
@@ -34,7 +34,7 @@ fn count_of(windows: &[TreeWindow], root: SurfaceNo) -> usize
         .count()
 }
 
-/// The windows of the tree of a root, where those of each tree stand together.
+/// The windows of the tree of a root. Those of each tree have to stand together.
 fn tree_in(windows: &[TreeWindow], root: SurfaceNo) -> &[TreeWindow]
     ensures { AreTogether windows.now → result.now ≡ tree_of root windows.now }
 {
@@ -42,7 +42,7 @@ fn tree_in(windows: &[TreeWindow], root: SurfaceNo) -> &[TreeWindow]
     &rest[..count_of(rest, root)]
 }
 
-/// What changed of the tree of a root is marked.
+/// Marks what changed of the tree of a root.
 fn mark_root<A: Allocator>(
     damage: &mut Damage<A>,
     root: SurfaceNo,
@@ -57,7 +57,7 @@ fn mark_root<A: Allocator>(
     mark_tree(damage, tree_in(was, root), tree_in(is, root), changes);
 }
 
-/// What changed of the trees that were there is marked.
+/// Marks what changed of the trees that were there.
 fn mark_old<A: Allocator>(
     damage: &mut Damage<A>,
     was: &[TreeWindow],
@@ -79,7 +79,7 @@ fn mark_old<A: Allocator>(
     }
 }
 
-/// What changed of the tree of a root is marked, if the tree wasn't there.
+/// Marks what changed of the tree of a root, if the tree wasn't there.
 fn mark_new_root<A: Allocator>(
     damage: &mut Damage<A>,
     root: SurfaceNo,
@@ -97,7 +97,7 @@ fn mark_new_root<A: Allocator>(
     }
 }
 
-/// What changed of the trees that weren't there is marked.
+/// Marks what changed of the trees that weren't there.
 fn mark_new<A: Allocator>(
     damage: &mut Damage<A>,
     was: &[TreeWindow],
@@ -119,10 +119,14 @@ fn mark_new<A: Allocator>(
     }
 }
 
-/// What a call marks that changed several trees of surfaces, as those of a toplevel and its popups, by their windows before and after it
-/// and what it applied to surfaces: of each tree by itself, where its windows are the same, the damage of its surfaces, in surface pixels,
-/// moved to their windows; else all points of its windows, as they were and as they are (wayland.xml, wl_surface.damage and wl_subsurface;
-/// xdg-shell.xml, xdg_popup). In both lists the windows of each tree stand together.
+/// Marks what a call changed of several trees of surfaces, as those of a toplevel and its popups
+/// (wayland.xml, wl_surface.damage and wl_subsurface; xdg-shell.xml, xdg_popup). `was` and `is` are
+/// their windows before and after it, `changes` what it applied to surfaces. In both lists the
+/// windows of each tree stand together.
+///
+/// Each tree is marked by itself. If its windows are the same, that is the damage of its surfaces,
+/// in surface pixels, moved to their windows. Else it is all points of its windows, as they were
+/// and as they are.
 pub fn mark_trees<A: Allocator>(
     damage: &mut Damage<A>,
     was: &[TreeWindow],

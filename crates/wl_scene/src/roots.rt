@@ -1,4 +1,5 @@
-//! The roots of the windows of a toplevel: its surface, and those of its popups that are shown (xdg-shell.xml, xdg_popup).
+//! The roots of the windows of a toplevel: its surface, and those of its popups that are shown
+//! (xdg-shell.xml, xdg_popup).
 
 ghost use Rattle.std.specs.Prelude.{ℕ, [], ◌∷◌, ◌≡◌, ◌==◌, ◌+◌, ◌++◌, ◌≤◌, IsOk, List, OnErr, OnOk, Option, find, length, map, not, vec_capacity, vec_len};
 ghost use Rattle.std.specs.Option.{option_copied, option_map_or};
@@ -21,7 +22,8 @@ use std::alloc::{AllocError, Allocator};
 use wl_shell::{Popup, Shell, Stage, XdgSurface};
 use wl_surface::SurfaceNo;
 
-/// The root of a tree of windows, which is the surface of a toplevel or of a popup, and where its place is in the output in pixels.
+/// The root of a tree of windows, a toplevel's or a popup's surface, and its place in the output in
+/// pixels.
 #[derive(Clone, Copy, Debug, PartialEq, Eq)]
 pub struct RootPlace {
     pub surface: SurfaceNo,
@@ -50,7 +52,7 @@ fn root_corner<A: Allocator + Copy>(owned: &Owned<A>, root: &RootPlace) -> Point
     geometry_at(&owned.surfaces, root.surface, place, geometry)
 }
 
-/// Its surface is mapped.
+/// Whether its surface is mapped.
 fn is_mapped(xdg_surface: &XdgSurface) -> bool
     ensures { result ≡ is_mapped xdg_surface.now }
 {
@@ -60,7 +62,7 @@ fn is_mapped(xdg_surface: &XdgSurface) -> bool
     }
 }
 
-/// It is a popup that isn't dismissed.
+/// Whether it is a popup that isn't dismissed.
 fn is_undismissed(xdg_surface: &XdgSurface) -> bool
     ensures { result ≡ has_popup (λ popup. not popup.is_dismissed) xdg_surface.now }
 {
@@ -70,7 +72,7 @@ fn is_undismissed(xdg_surface: &XdgSurface) -> bool
     }
 }
 
-/// It is a popup that is mapped.
+/// Whether it is a popup that is mapped.
 fn shows_popup(xdg_surface: &XdgSurface) -> bool
     ensures { result ≡ shows_popup xdg_surface.now }
 {
@@ -125,7 +127,8 @@ fn root_on<A: Allocator + Copy>(
     }
 }
 
-/// The root that the popup of an xdg_surface, which is mapped, is on one of these; none where its parent isn't among them.
+/// The root of an xdg_surface's popup, which is mapped. `None` if its parent isn't among these
+/// roots.
 fn popup_root<A: Allocator + Copy>(
     owned: &Owned<A>,
     roots: &[RootPlace],
@@ -143,7 +146,8 @@ fn popup_root<A: Allocator + Copy>(
     }
 }
 
-/// The root that the popup of this xdg_surface is on one of these; none where it isn't mapped, or its parent isn't among them.
+/// The root of this xdg_surface's popup. `None` if it isn't mapped, or its parent isn't among these
+/// roots.
 fn shown_root<A: Allocator + Copy>(
     owned: &Owned<A>,
     roots: &[RootPlace],
@@ -163,7 +167,8 @@ fn shown_root<A: Allocator + Copy>(
     None
 }
 
-/// The root that the popup of this surface is on one of these; none where it isn't mapped, or its parent isn't among them.
+/// The root of this surface's popup. `None` if it isn't mapped, or its parent isn't among these
+/// roots.
 fn stacked_root<A: Allocator + Copy>(
     owned: &Owned<A>,
     roots: &[RootPlace],
@@ -194,7 +199,7 @@ fn push_some<A: Allocator>(
     Ok(())
 }
 
-/// Adds the root that the popup of this surface is on one of those from a place on, if it is one.
+/// Adds the root of this surface's popup, if its parent is among the roots from a place on.
 fn add_popup<A: Allocator + Copy>(
     owned: &Owned<A>,
     before: usize,
@@ -227,7 +232,7 @@ fn next_popup<A: Allocator>(shell: &Shell<A>, last: Option<u64>) -> Option<Surfa
     }
 }
 
-/// The number of the popup of a surface; 0 where it has none.
+/// The number of a surface's popup; 0 if it has none.
 fn number_of<A: Allocator>(shell: &Shell<A>, surface: SurfaceNo) -> u64
     ensures { result ≡ option_map_or number_of (kept_of shell.now surface) 0 }
 {
@@ -286,13 +291,15 @@ fn add_all<A: Allocator + Copy>(
     add_popups(owned, before, roots)
 }
 
-/// Adds the roots of the windows of the toplevel of a surface, which stands at a place in the output, in pixels, behind the others: itself, and
-/// then its popups that are shown, in order of creation, each with its place. A popup is shown while it and each of its parents up to the
-/// toplevel are mapped and not dismissed (xdg-shell.xml, xdg_popup).
+/// Adds the roots of the windows of a surface's toplevel, which stands at a place in the output, in
+/// pixels, behind the others. They are itself, and then its popups that are shown, in order of
+/// creation, each with its place. A popup is shown while it and all its parents up to the toplevel
+/// are mapped and not dismissed (xdg-shell.xml, xdg_popup).
 ///
 /// # Errors
 ///
-/// An `Err` means that memory ran out, and adds nothing. There is none where there is room for the roots already.
+/// An `Err` means that memory ran out, and adds nothing. It can't come if there is room for the
+/// roots already.
 pub fn add_roots<A: Allocator + Copy>(
     owned: &Owned<A>,
     toplevel: SurfaceNo,

@@ -1,4 +1,5 @@
-//! Where the windows stacked with a toplevel stand among those of the output, and how others take their place.
+//! Where the windows stacked with a toplevel stand among those of the output, and how others take
+//! their place.
 
 ghost use Rattle.std.specs.Prelude.{◌≡◌, ◌++◌, ◌+◌, ◌≤◌, IsOk, OnErr, OnOk, MatchOption, drop, false, find, length, map, option_copied, position, take};
 ghost use Rattle.std.specs.List.{list_any};
@@ -10,7 +11,7 @@ use crate::tree_window::TreeWindow;
 use std::alloc::{AllocError, Allocator};
 use wl_surface::SurfaceNo;
 
-/// So many windows, one above another.
+/// Windows that stand together: where they start, and how many they are.
 #[derive(Clone, Copy, Debug)]
 struct Run {
     start: usize,
@@ -34,7 +35,7 @@ fn count_of(all: &[Stacked], client: u32, toplevel: SurfaceNo) -> usize
         .count()
 }
 
-/// Where the windows stacked with a toplevel stand. `None` where there are none.
+/// Where the windows stacked with a toplevel stand, if there are any.
 fn find_run(all: &[Stacked], client: u32, toplevel: SurfaceNo) -> Option<Run>
     requires { AreTogether all.now }
     ensures { MatchOption result (list_any (is_of client toplevel) all.now ≡ false)
@@ -63,7 +64,7 @@ pub(crate) fn lowest_in(all: &[Stacked], client: u32, root: SurfaceNo) -> Option
     all.iter().find(|stacked| is_of_root(stacked, client, root))
 }
 
-/// The uppermost windows, so many of them, come below the others from `start` on.
+/// Puts the uppermost `count` windows below the others from `start` on.
 fn put_below(all: &mut [Stacked], start: usize, count: usize)
     requires { start + count ≤ length all.old }
     ensures len { length all.new ≡ length all.old }
@@ -72,7 +73,7 @@ fn put_below(all: &mut [Stacked], start: usize, count: usize)
     all[start..].rotate_right(count);
 }
 
-/// The windows of a run go.
+/// Takes the windows of a run out.
 fn take_out<A: Allocator>(all: &mut Vec<Stacked, A>, run: Run)
     requires { run.start + run.count ≤ length all.old.items }
     ensures { all.new.items ≡ take run.start all.old.items ++ drop (run.start + run.count) all.old.items }
@@ -80,7 +81,8 @@ fn take_out<A: Allocator>(all: &mut Vec<Stacked, A>, run: Run)
     all.drain(run.start..run.start + run.count);
 }
 
-/// The windows stacked with a toplevel are these now, where they stood. Nothing changes where none stood.
+/// Puts these windows in the place of those stacked with a toplevel. Nothing changes if it has
+/// none.
 ///
 /// # Errors
 ///
@@ -106,7 +108,7 @@ pub(crate) fn replace_in<A: Allocator>(
     Ok(())
 }
 
-/// The lowest windows from `start` on, so many of them, come above the others.
+/// Puts the `count` windows from `start` on above the others.
 fn put_above(all: &mut [Stacked], start: usize, count: usize)
     requires { start + count ≤ length all.old }
     ensures len { length all.new ≡ length all.old }
@@ -115,7 +117,8 @@ fn put_above(all: &mut [Stacked], start: usize, count: usize)
     all[start..].rotate_left(count);
 }
 
-/// The windows stacked with a toplevel come on top of the others. Nothing changes where there are none.
+/// Puts the windows stacked with a toplevel on top of the others. Nothing changes if there are
+/// none.
 pub(crate) fn raise_in(all: &mut [Stacked], client: u32, toplevel: SurfaceNo)
     requires { AreTogether all.old }
     ensures len { length all.new ≡ length all.old }
@@ -127,7 +130,7 @@ pub(crate) fn raise_in(all: &mut [Stacked], client: u32, toplevel: SurfaceNo)
     put_above(all, run.start, run.count);
 }
 
-/// Other windows stacked with a toplevel are written over those from `start` on.
+/// Writes these windows, stacked with a toplevel, over those from `start` on.
 fn write_over(
     all: &mut [Stacked],
     start: usize,
@@ -148,7 +151,8 @@ fn write_over(
     }
 }
 
-/// The windows stacked with a toplevel are these now, one by one in the place of those that stood there. Nothing changes where it hadn't as many.
+/// Writes these windows over those stacked with a toplevel, one by one. Nothing changes unless
+/// there are equally many.
 pub(crate) fn move_in(all: &mut [Stacked], client: u32, toplevel: SurfaceNo, windows: &[TreeWindow])
     requires { AreTogether all.old }
     ensures len { length all.new ≡ length all.old }

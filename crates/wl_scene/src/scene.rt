@@ -12,10 +12,10 @@ use std::marker::Model;
 use std::mem;
 use wl_surface::SurfaceNo;
 
-/// How many places there are for toplevels that are mapped, one after another.
+/// How many different places mapped toplevels get, in turn.
 const PLACES: u8 = 8;
 
-/// How far a place is from the one before it in pixels, to the right and down.
+/// How far a place is to the right of and below the one before it, in pixels.
 const STEP: i32 = 32;
 
 /// A surface of a client, each by its number.
@@ -33,7 +33,8 @@ pub struct Toplevel {
     pub y: i32,
 }
 
-/// The mapped toplevels of all clients from bottom to top. It is seen as that list, and which place is the next one's.
+/// The mapped toplevels of all clients from bottom to top. Contracts see it as that list, and which
+/// place comes next.
 #[derive(Drop)]
 pub struct Scene<A: Allocator> {
     standing: Vec<Toplevel, A>,
@@ -81,7 +82,7 @@ fn find_toplevel(standing: &[Toplevel], surface: Surface) -> Option<&Toplevel>
         .find(|toplevel| is_surface(toplevel, surface))
 }
 
-/// The toplevel at this place moves up to the top.
+/// Moves the toplevel at this place to the top.
 fn to_top(standing: &mut [Toplevel], place: usize)
     requires { place < length standing.old }
     ensures len { length standing.new ≡ length standing.old }
@@ -121,9 +122,12 @@ impl<A: Allocator> Scene<A> {
         }
     }
 
-    /// A toplevel is mapped: it stands on top, in the next place (xdg-shell.xml, xdg_surface: mapping). That it isn't mapped yet is the
-    /// caller's condition. The toplevels are kept in `spare` from then on, and what they were kept in is the spare one: mapping takes no
-    /// memory where that has room for one more than stand. What it held before is lost.
+    /// Maps a toplevel: it stands on top, in the next place (xdg-shell.xml, xdg_surface: mapping).
+    /// The caller makes sure that it isn't mapped yet.
+    ///
+    /// The toplevels are kept in `spare` from then on, and `spare` becomes the memory that they
+    /// were kept in. If `spare` has room for one more than stand, mapping takes no memory. What it
+    /// held before is lost.
     ///
     /// # Errors
     ///
@@ -147,7 +151,7 @@ impl<A: Allocator> Scene<A> {
         Ok(())
     }
 
-    /// A toplevel isn't mapped any more. Nothing changes where it wasn't.
+    /// Unmaps a toplevel. Nothing changes if it isn't mapped.
     pub fn unmap(&mut self, surface: Surface)
         ensures standing { self.new.standing ≡ without_surface_of surface.client surface.surface self.old.standing }
         ensures next { self.new.next ≡ self.old.next }
@@ -156,7 +160,7 @@ impl<A: Allocator> Scene<A> {
             .retain(|toplevel| !is_surface(toplevel, surface));
     }
 
-    /// None of a client's toplevels is mapped any more.
+    /// Unmaps all of a client's toplevels.
     pub fn unmap_all(&mut self, client: u32)
         ensures standing { self.new.standing ≡ without_client client self.old.standing }
         ensures next { self.new.next ≡ self.old.next }
@@ -165,7 +169,7 @@ impl<A: Allocator> Scene<A> {
             .retain(|toplevel| !is_client(toplevel, client));
     }
 
-    /// A toplevel moves up to the top. Nothing changes where it isn't mapped.
+    /// Moves a toplevel to the top. Nothing changes if it isn't mapped.
     pub fn raise(&mut self, surface: Surface)
         ensures standing { self.new.standing ≡ raised surface.client surface.surface self.old.standing }
         ensures next { self.new.next ≡ self.old.next }
@@ -176,7 +180,8 @@ impl<A: Allocator> Scene<A> {
         to_top(&mut self.standing, place);
     }
 
-    /// A toplevel stands at another place, given in pixels of the output. Nothing changes where it isn't mapped.
+    /// Puts a toplevel at another place, in pixels of the output. Nothing changes if it isn't
+    /// mapped.
     pub fn move_to(&mut self, surface: Surface, x: i32, y: i32)
         ensures standing { self.new.standing ≡ moved_to surface.client surface.surface (record { x = x; y = y }) self.old.standing }
         ensures next { self.new.next ≡ self.old.next }

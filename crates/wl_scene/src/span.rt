@@ -1,11 +1,11 @@
-//! Sides of windows on an output, and what of them damage holds.
+//! Sides of windows on an output, and which part of them damage holds.
 
 ghost use Rattle.std.specs.Prelude.{ℕ, ℤ, ◌≡◌, ◌<◌, ◌+ℤ◌, ◌-ℤ◌, ◌&&◌, int_le, int_lt, pos, true};
 ghost use Rattle.wl_geom.specs.Rect.{in_span};
 
 use wl_paint::MAX_SIDE;
 
-/// A place held within those that an output may have, and the place just after them.
+/// A place, held to those that an output may have and the place just after them.
 fn held(at: i64) -> i32
     ensures starts { (z : ℕ) → z < 4096 → int_le result (pos z) ≡ int_le at (pos z) }
     ensures ends { (z : ℕ) → z < 4096 → int_lt (pos z) result ≡ int_lt (pos z) at }
@@ -20,7 +20,8 @@ fn held(at: i64) -> i32
     at as i32
 }
 
-/// The places from `first` up to `end` that an output may have: their start and how many they are.
+/// The places from `first` up to `end` that an output may have: where they start, and how many they
+/// are.
 fn span_between(first: i64, end: i64) -> (i32, i32)
     ensures { (z : ℕ) → z < 4096 → in_span result.0 result.1 (pos z) ≡ (int_le first (pos z) && int_lt (pos z) end) }
 {
@@ -28,7 +29,7 @@ fn span_between(first: i64, end: i64) -> (i32, i32)
     (first, held(end) - first)
 }
 
-/// The same of a window's side of this length, whose corner is there.
+/// The same for a window's side of this length, whose corner is there.
 pub(crate) fn side_on_output(corner: i32, side: u32) -> (i32, i32)
     ensures { (z : ℕ) → z < 4096 → in_span result.0 result.1 (pos z) ≡ in_span corner (pos side) (pos z) }
 {
@@ -60,7 +61,7 @@ fn end_within(start: i32, length: i32, side: u32) -> u32
     side
 }
 
-/// The same of a span of a surface, cut to its side, whose corner is there.
+/// The same for a span of a surface, cut to its side, whose corner is there.
 pub(crate) fn span_on_output(corner: i32, side: u32, start: i32, length: i32) -> (i32, i32)
     ensures { (z : ℕ) → z < 4096 → in_span result.0 result.1 (pos z) ≡ (in_span corner (pos side) (pos z) && in_span start length (pos z -ℤ corner)) }
 {

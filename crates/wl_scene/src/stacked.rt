@@ -36,7 +36,8 @@ pub(crate) fn is_of_client(stacked: &Stacked, client: u32) -> bool
     stacked.client == client
 }
 
-/// There is room for so many windows more, both where they are kept and where those of a toplevel are told.
+/// Makes room for this many more windows, both where they are kept and where those of a toplevel
+/// are told.
 ///
 /// # Errors
 ///
@@ -58,7 +59,7 @@ pub(crate) fn reserve_both<A: Allocator>(
     spare.try_reserve(all.len() + count)
 }
 
-/// The windows stacked with a toplevel come on top of the others.
+/// Puts these windows, stacked with a toplevel, on top of the others.
 ///
 /// # Errors
 ///

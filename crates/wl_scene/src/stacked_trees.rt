@@ -12,7 +12,8 @@ use crate::tree_windows::add_windows;
 use std::alloc::{AllocError, Allocator};
 use wl_surface::Surfaces;
 
-/// Adds the windows of the tree of this root behind the others, from bottom to top where it is placed.
+/// Adds the windows of the tree of this root behind the others, from bottom to top, at the root's
+/// place.
 fn add_root<A: Allocator + Copy>(
     surfaces: &Surfaces<A>,
     root: &RootPlace,
@@ -27,11 +28,13 @@ fn add_root<A: Allocator + Copy>(
     add_windows(surfaces, root.surface, root.x, root.y, windows)
 }
 
-/// Adds the windows of the trees of these roots behind the others, tree after tree, each from bottom to top where its root is placed.
+/// Adds the windows of the trees of these roots behind the others, tree after tree, each from
+/// bottom to top at its root's place.
 ///
 /// # Errors
 ///
-/// An `Err` means that memory ran out: then those of the first roots alone may have come. There is none where there is room for all of them already.
+/// An `Err` means that memory ran out; only those of the first roots may have come then. It can't
+/// come if there is room for all of them already.
 pub fn add_trees<A: Allocator + Copy>(
     surfaces: &Surfaces<A>,
     roots: &[RootPlace],

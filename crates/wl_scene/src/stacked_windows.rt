@@ -17,9 +17,12 @@ use std::alloc::{AllocError, Allocator};
 use std::marker::Model;
 use wl_surface::{SurfaceNo, Surfaces};
 
-/// The windows of all mapped toplevels from bottom to top: of each toplevel those that are stacked with it together, which are those of its
-/// tree and of the trees of its popups (xdg-shell.xml, xdg_surface and xdg_popup; wayland.xml, wl_subsurface). They are seen as that list, and
-/// how many more fit without memory. In `spare` all of them fit as well: there the windows of a toplevel are told that is moved.
+/// The windows of all mapped toplevels from bottom to top (xdg-shell.xml, xdg_surface and
+/// xdg_popup; wayland.xml, wl_subsurface). The windows stacked with a toplevel stand together:
+/// those of its tree and of the trees of its popups.
+///
+/// Contracts see the list, and how many more windows fit without memory. `spare` has room for all
+/// of them too: the windows of a toplevel that is moved are told there.
 #[derive(Drop)]
 pub struct StackedWindows<A: Allocator> {
     windows: Vec<Stacked, A>,
@@ -48,8 +51,8 @@ impl<A: Allocator + Copy> StackedWindows<A> {
         }
     }
 
-    /// The windows stacked with a toplevel are those of the trees of these roots, tree after tree and one by one, where the roots are placed now:
-    /// there are as many of them. It takes no memory.
+    /// Lists the windows stacked with a toplevel anew, where their roots are placed now, tree after
+    /// tree and one by one. There are equally many of them. It takes no memory.
     pub fn move_run(
         &mut self,
         client: u32,
@@ -78,7 +81,7 @@ impl<A: Allocator> StackedWindows<A> {
         &self.windows[..]
     }
 
-    /// Whether a window is there that is stacked with this toplevel.
+    /// Whether a window is stacked with this toplevel.
     pub fn has_toplevel(&self, client: u32, toplevel: SurfaceNo) -> bool
         ensures { result ≡ list_any (is_of client toplevel) self.now.windows }
     {
@@ -94,7 +97,8 @@ impl<A: Allocator> StackedWindows<A> {
         run_in(&self.windows, client, toplevel)
     }
 
-    /// The toplevel that the lowest window of the tree of a root is stacked with. `None` where no window of that tree is there.
+    /// The toplevel that the lowest window of the tree of a root is stacked with. `None` if the
+    /// tree has no window.
     pub fn toplevel_with(&self, client: u32, root: SurfaceNo) -> Option<SurfaceNo>
         ensures { result ≡ toplevel_with client root self.now.windows }
     {
@@ -104,7 +108,8 @@ impl<A: Allocator> StackedWindows<A> {
         }
     }
 
-    /// Makes room for so many windows more: as long as no windows are added, adding or replacing so many takes no memory.
+    /// Makes room for this many more windows: until others are added, adding or replacing as many
+    /// takes no memory.
     ///
     /// # Errors
     ///
@@ -117,11 +122,13 @@ impl<A: Allocator> StackedWindows<A> {
         reserve_both(&mut self.windows, &mut self.spare, count)
     }
 
-    /// The windows stacked with a toplevel come on top of the others, none of which is.
+    /// Puts the windows stacked with a toplevel on top of the others. It has to have none there
+    /// yet.
     ///
     /// # Errors
     ///
-    /// An `Err` means that memory ran out, and changes nothing. There is none where there is room for the windows already.
+    /// An `Err` means that memory ran out, and changes nothing. It can't come if there is room for
+    /// the windows already.
     pub fn push(
         &mut self,
         client: u32,
@@ -137,11 +144,13 @@ impl<A: Allocator> StackedWindows<A> {
         add_all(&mut self.windows, client, toplevel, windows)
     }
 
-    /// The windows stacked with a toplevel are these now, where it has some. Nothing changes where no window of it is there.
+    /// Puts these windows in the place of those stacked with a toplevel. Nothing changes if it has
+    /// none.
     ///
     /// # Errors
     ///
-    /// An `Err` means that memory ran out, and changes nothing. There is none where there is room for the windows already.
+    /// An `Err` means that memory ran out, and changes nothing. It can't come if there is room for
+    /// the windows already.
     pub fn replace(
         &mut self,
         client: u32,
@@ -156,7 +165,8 @@ impl<A: Allocator> StackedWindows<A> {
         replace_in(&mut self.windows, client, toplevel, windows)
     }
 
-    /// The windows stacked with a toplevel come on top of the others: it is raised. Nothing changes where no window of it is there.
+    /// Raises a toplevel: puts the windows stacked with it on top of the others. Nothing changes if
+    /// it has none.
     pub fn raise(&mut self, client: u32, toplevel: SurfaceNo)
         ensures windows { self.new.windows ≡ raised client toplevel self.old.windows }
         ensures room { self.old.room ≤ self.new.room }
@@ -164,7 +174,7 @@ impl<A: Allocator> StackedWindows<A> {
         raise_in(&mut self.windows, client, toplevel);
     }
 
-    /// The windows stacked with a toplevel go.
+    /// Takes the windows stacked with a toplevel out.
     pub fn remove(&mut self, client: u32, toplevel: SurfaceNo)
         ensures windows { self.new.windows ≡ without_run client toplevel self.old.windows }
         ensures room { self.old.room ≤ self.new.room }
@@ -173,7 +183,7 @@ impl<A: Allocator> StackedWindows<A> {
             .retain(|stacked| !is_of_toplevel(stacked, client, toplevel));
     }
 
-    /// The windows of the tree of this root go.
+    /// Takes the windows of the tree of this root out.
     pub fn remove_tree(&mut self, client: u32, root: SurfaceNo)
         ensures windows { self.new.windows ≡ without_tree client root self.old.windows }
         ensures room { self.old.room ≤ self.new.room }
@@ -182,7 +192,7 @@ impl<A: Allocator> StackedWindows<A> {
             .retain(|stacked| !is_of_root(stacked, client, root));
     }
 
-    /// All windows of a client go.
+    /// Takes all windows of a client out.
     pub fn remove_client(&mut self, client: u32)
         ensures windows { self.new.windows ≡ without_client client self.old.windows }
         ensures room { self.old.room ≤ self.new.room }

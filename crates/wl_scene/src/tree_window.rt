@@ -14,8 +14,9 @@ use wl_geom::Rect;
 use wl_store::Transform;
 use wl_surface::{SurfaceNo, Surfaces, held};
 
-/// A window of a tree: its surface, the surface at the root of the tree, where its upper left corner is on the output and its size, in
-/// pixels, and how its buffer is turned and scaled (wayland.xml, wl_subcompositor, wl_surface.set_buffer_transform and set_buffer_scale).
+/// A window of a tree: its surface, and the surface at the root of the tree. Its upper left corner
+/// on the output and its size are in pixels. It also says how its buffer is turned and scaled
+/// (wayland.xml, wl_subcompositor, wl_surface.set_buffer_transform and set_buffer_scale).
 #[derive(Clone, Copy, Debug, PartialEq, Eq)]
 pub struct TreeWindow {
     pub surface: SurfaceNo,
@@ -49,14 +50,15 @@ impl TreeWindow {
     }
 }
 
-/// So many pixels to the right and down.
+/// A distance in pixels to the right and down.
 #[derive(Clone, Copy, Debug)]
 pub(crate) struct Point {
     pub x: i32,
     pub y: i32,
 }
 
-/// A place on the output for a surface of the tree with this root: so far from a corner there. The sum isn't held within the bounds.
+/// A place on the output for a surface of the tree with this root: a corner there, and a distance
+/// from it. The sum isn't held within the bounds.
 #[derive(Clone, Copy, Debug)]
 pub(crate) struct Spot {
     pub root: SurfaceNo,
@@ -71,8 +73,9 @@ fn held_sum(corner: i32, position: i32, offset: i32) -> i32
     held(i64::from(corner) + i64::from(position) + i64::from(offset))
 }
 
-/// The window of a surface that is placed there, as a child is at its position from the corner of its parent (wayland.xml,
-/// wl_subsurface.set_position): its corner is there plus its own offset. `None` where it shows no buffer, or isn't there.
+/// The window of a surface that is placed there. A child is placed at its position from the corner
+/// of its parent (wayland.xml, wl_subsurface.set_position). The window's corner is there plus the
+/// surface's own offset. `None` if it shows no buffer, or isn't there.
 pub(crate) fn window_of<A: Allocator + Copy>(
     surfaces: &Surfaces<A>,
     surface: SurfaceNo,

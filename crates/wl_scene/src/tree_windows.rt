@@ -14,8 +14,8 @@ use wl_surface::{SurfaceNo, Surfaces};
 /// The levels of a tree: that of its root, and those below it.
 const LEVELS: u8 = MAX_DEPTH as u8 + 1;
 
-/// Adds what stands at one place in the stack of a surface with this window: the window itself, or the windows of a child, down to so many
-/// levels.
+/// Adds what stands at one place in the stack of a surface with this window: the window itself, or
+/// a child's windows. It goes down this many levels at most.
 #[cycle(tree)]
 fn add_placed<A: Allocator + Copy>(
     surfaces: &Surfaces<A>,
@@ -53,7 +53,8 @@ fn add_placed<A: Allocator + Copy>(
     Ok(())
 }
 
-/// Adds what stands in the stack of a surface with this window, from below, down to so many levels.
+/// Adds what stands in the stack of a surface with this window, from below. It goes down this many
+/// levels at most.
 #[cycle(tree)]
 fn add_stack<A: Allocator + Copy>(
     surfaces: &Surfaces<A>,
@@ -78,7 +79,8 @@ fn add_stack<A: Allocator + Copy>(
     Ok(())
 }
 
-/// Adds the windows of the tree of a surface that is placed there, down to so many levels.
+/// Adds the windows of the tree of a surface that is placed there. It goes down this many levels at
+/// most.
 #[cycle(tree)]
 fn add_tree<A: Allocator + Copy>(
     surfaces: &Surfaces<A>,
@@ -109,13 +111,17 @@ fn add_tree<A: Allocator + Copy>(
     add_stack(surfaces, levels - 1, &window, stack, windows)
 }
 
-/// Adds the windows of the tree of a root that is placed there on the output, in pixels, behind the others, from bottom to top: of each
-/// surface that shows a buffer the children below it with theirs, itself, and the children above it with theirs. A surface without a buffer
-/// isn't shown, and neither are its children (wayland.xml, wl_surface.attach, wl_subcompositor and wl_subsurface).
+/// Adds the windows of the tree of a root behind the others, from bottom to top (wayland.xml,
+/// wl_surface.attach, wl_subcompositor and wl_subsurface). The root is placed there on the output,
+/// in pixels.
+///
+/// A surface that shows a buffer adds the children below it with theirs, itself, and the children
+/// above it with theirs. A surface without a buffer isn't shown, and neither are its children.
 ///
 /// # Errors
 ///
-/// An `Err` means that memory ran out, and adds nothing. There is none where there is room for the windows already.
+/// An `Err` means that memory ran out, and adds nothing. It can't come if there is room for the
+/// windows already.
 pub fn add_windows<A: Allocator + Copy>(
     surfaces: &Surfaces<A>,
     root: SurfaceNo,

@@ -17,8 +17,8 @@ use crate::stacked::Stacked;
 use crate::stacked_windows::StackedWindows;
 use std::alloc::Allocator;
 
-/// A window of the output: its surface, where its upper left corner is on the output in pixels, and its width and height in surface
-/// coordinates (wayland.xml, wl_surface).
+/// A window of the output: its surface, its upper left corner in pixels of the output, and its
+/// width and height in surface coordinates (wayland.xml, wl_surface).
 #[derive(Clone, Copy, Debug, PartialEq, Eq)]
 pub struct Window {
     pub surface: Surface,
@@ -60,7 +60,8 @@ impl<A: Allocator> StackedWindows<A> {
         self.windows().len()
     }
 
-    /// The window at place `k`, counted from 0 at the bottom. That there are more than `k` is the caller's condition.
+    /// The window at place `k`, counted from 0 at the bottom. The caller makes sure that there are
+    /// more than `k`.
     pub fn window(&self, k: usize) -> Window
         requires { k < length self.now.windows }
         ensures { (numbers : ℕ → ById ℕ) (ws : List Plain) → AreStacked numbers self.now.windows ws
@@ -69,8 +70,8 @@ impl<A: Allocator> StackedWindows<A> {
         window_of(&self.windows()[k])
     }
 
-    /// The surface that a point of the output, in pixels, hits: that of the topmost window which takes the input there (wayland.xml,
-    /// wl_surface.set_input_region).
+    /// The surface that a point hits, in pixels of the output: that of the topmost window which
+    /// takes the input there (wayland.xml, wl_surface.set_input_region).
     pub fn hit<S: Surfaced>(&self, clients: &S, x: i32, y: i32) -> Option<Surface>
         ensures { (numbers : ℕ → ById ℕ) (d : Desktop) → AreKept (S.slots clients.now) numbers self.now.windows d
             → IsNumberedOrNone numbers (named_or_none result) (target_of (hit_of x y (all_windows d))) }

@@ -1,4 +1,4 @@
-//! Connections are accepted.
+//! Accepting connections.
 
 ghost use Rattle.std.specs.Prelude.{◌≡◌, length, OnOk, OnErr, IfOk, Some};
 ghost use Rattle.wl_server.specs.Acting.{Takes};
@@ -16,7 +16,7 @@ use std::io::Write;
 use wl_recording::write_client;
 use wl_session::{ClientNo, ConnectError};
 
-/// The most connections that are accepted in a turn.
+/// How many connections are accepted in a turn, at most.
 const ACCEPTS: usize = 32;
 
 /// Accepts those that wait, and tells of each that became a client. A fault ends accepting for this turn.
@@ -81,7 +81,7 @@ fn accept_one<A: Allocator + Copy, R: Write, H: Hub, W: Write>(
     }
 }
 
-/// A client gets its seat.
+/// Gives a client its seat.
 fn sit<C: Drop>(seats: &mut [Option<Seat<C>>], client: ClientNo, seat: Seat<C>)
     ensures { seats.new ≡ with_seat client (Some seat) seats.old }
 {

@@ -1,4 +1,4 @@
-//! Clients that ended are closed.
+//! Closing clients that ended.
 
 ghost use Rattle.std.specs.Prelude.{◌≡◌, ◌≤◌, ℕ, length, OnOk, OnErr};
 ghost use Rattle.spec_desktop.specs.Act.{unsent_of, peer_at};

@@ -11,12 +11,12 @@ use crate::hub::{Hub, HubFault};
 pub struct Delivered {
     /// How many of the bytes the connection took.
     pub bytes: usize,
-    /// Whether a write failed, so that the client takes no more.
+    /// Whether a write failed, so the client takes no more.
     pub is_gone: bool,
 }
 
-/// Writes these bytes, until all are written, or a write would block, takes no byte or fails. Where a write failed, the client is gone,
-/// and what was written before still counts.
+/// Writes these bytes until all are written, or a write would block, takes no byte or fails. After
+/// a failed write the client is gone; what was written before still counts.
 pub fn deliver<H: Hub>(hub: &mut H, conn: &mut H::Conn, bytes: &[u8]) -> Delivered
     ensures within { result.bytes ≤ length bytes.now }
     ensures written { Delivers H.writes H.fault_count hub.old conn.old bytes.now result.bytes result.is_gone hub.new conn.new }

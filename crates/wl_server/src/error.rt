@@ -1,11 +1,11 @@
-//! Why a turn isn't told of.
+//! Why a turn isn't reported.
 
 ghost use Rattle.std.specs.Prelude.{◌≡◌};
 
 use std::io;
 use thiserror::Error;
 
-/// A turn wasn't told of.
+/// A turn wasn't reported.
 #[derive(Clone, Copy, Debug, PartialEq, Eq, Error)]
 pub enum TurnError {
     /// The writer of the report, of the images or of the recording failed.

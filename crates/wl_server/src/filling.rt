@@ -1,4 +1,4 @@
-//! Side files come into the stores of clients that sent bytes.
+//! Putting side files into the stores of clients that sent bytes.
 
 ghost use Rattle.std.specs.Prelude.{◌≡◌, ◌≤◌, ◌<◌, ◌+◌, ◌-◌, ◌^◌, ◌++◌, ℕ, List, [], length, min};
 ghost use Rattle.arrayvec.specs.ArrayVec.{array_vec_len};
@@ -18,16 +18,17 @@ use std::io::Write;
 use wl_recording::{SideFault, SideFiles, StoreRange, next_range};
 use wl_session::{ClientNo, StoreNo};
 
-/// The most bytes that are asked of a file at once.
+/// How many bytes are asked of a file at once, at most.
 const PIECE: usize = 4096;
 
-/// The most lines of a list of ranges that count.
+/// How many lines of a list of ranges count.
 const LINES: usize = 4096;
 
-/// The most bytes of a list of ranges that are looked at: so many lines of 36 bytes, the most that numbers without leading zeros take.
+/// How many bytes of a list of ranges are looked at: that many lines of 36 bytes, the most that
+/// numbers without leading zeros take.
 const TEXT: usize = 147_456;
 
-/// The most bytes of a side file's name: two numbers, and a point.
+/// How many bytes a side file's name has, at most: two numbers, and a point.
 const NAME: usize = 21;
 
 /// A store of a client.
@@ -159,8 +160,8 @@ fn read_text<S: SideFiles>(side: &mut S, text: &mut ArrayVec<u8, TEXT>, buf: &mu
     }
 }
 
-/// Appends what one read of the open file gives to a text that has room for it, and answers how many bytes. None at the file's end, and where the
-/// read fails.
+/// Appends what one read of the open file gives to a text that has room for it, and answers how
+/// many bytes. It is 0 at the file's end, and if the read fails.
 fn read_piece<S: SideFiles>(side: &mut S, text: &mut ArrayVec<u8, TEXT>, buf: &mut [u8]) -> usize
     requires buf { length buf.old ≤ PIECE }
     requires room { array_vec_len text.old + length buf.old ≤ TEXT }
@@ -246,7 +247,7 @@ fn fill_part<A: Allocator + Copy, R: Write, S: SideFiles>(
     }
 }
 
-/// Opens a side file, to read from this byte on. False where it is missing or fails.
+/// Opens a side file, to be read from this byte on. The answer is false if it is missing or fails.
 fn opens<S: SideFiles>(name: &str, from: u32, side: &mut S) -> bool
     ensures { Opens (files_of S.opens S.gives S.fault_count) name.now from result side.old side.new }
 {
@@ -278,7 +279,7 @@ fn list_name(number: u32) -> ArrayString<NAME>
     name
 }
 
-/// Appends a text for which there is room.
+/// Appends a text. There is room for it.
 fn push(name: &mut ArrayString<NAME>, text: &str)
     requires { length name.old.bytes + length text.now ≤ 21 }
     ensures { name.new.bytes ≡ name.old.bytes ++ text.now }

@@ -1,4 +1,4 @@
-//! A viewer is accepted, and its lines are taken.
+//! Accepting a viewer, and taking its lines.
 
 ghost use Rattle.std.specs.Prelude.{◌≡◌, ◌||◌, length};
 ghost use Rattle.wl_server.specs.Acting.{Takes, Then};
@@ -16,10 +16,10 @@ use std::alloc::{AllocError, Allocator};
 use std::io::Write;
 use wl_viewer::{Asked, Viewer};
 
-/// The most reads of a viewer in a turn.
+/// How often a viewer is read in a turn, at most.
 const READS: usize = 16;
 
-/// The most bytes of a read.
+/// How many bytes are read at once, at most.
 const PIECE: usize = 4096;
 
 /// The viewer is served; then a connection that waits gets the place if nobody has it, and is served too, and else is closed at once. True where
@@ -90,7 +90,7 @@ fn exchange<A: Allocator + Copy, R: Write, V: Hub>(
     }
 }
 
-/// Accepts a connection that waits. True where it got the place.
+/// Accepts a connection that waits. The answer is true if it got the place.
 fn accept_viewer<A: Allocator + Copy, V: Hub>(viewing: &mut Viewing<A, V, V::Conn>) -> bool
     ensures accepted { AcceptsOne (ways V.accepts V.reads V.writes V.closes V.fault_count) viewing.old.width viewing.old.height result
         (viewing.old.hub, viewing.old.watcher) (viewing.new.hub, viewing.new.watcher) }
@@ -182,7 +182,7 @@ fn read_once<A: Allocator + Copy, R: Write, V: Hub>(
     }
 }
 
-/// Whether a viewer is read no more: it failed, or sent a line that is none.
+/// Whether a viewer is read no more: it failed, or sent a bad line.
 fn is_left<A: Allocator + Copy, C: Drop>(watcher: &Watcher<A, C>) -> bool
     ensures { result ≡ (watcher.now.has_failed || watcher.now.viewer.heard.is_bad) }
 {

@@ -1,8 +1,10 @@
-//! The server: turns of a session whose clients are connections of a hub; what accepts, reads, writes and closes these, and counts its faults.
+//! The server: turns of a session whose clients are connections of a hub. Begin with [`Service`],
+//! which lasts from turn to turn, then [`turn`] and [`short_turn`], a turn without a frame. Options
+//! and the pace of turns are left to wl_program.
 //!
-//! [`Service`] keeps what lasts from turn to turn, [`Connections`] among it, [`turn`] takes one turn, and [`short_turn`] one without a frame.
-//! [`Hub`] is the trait, and [`SocketHub`] the hub over a Unix socket whose ends don't block. [`receive`] and [`deliver`] say over
-//! any hub what a read and the writing of some bytes came to, and when the client is gone.
+//! A turn accepts, reads, writes and closes connections. [`Hub`] is the trait for that, and
+//! [`SocketHub`] the hub over a Unix socket whose ends don't block. [`receive`] and [`deliver`] say
+//! what a read or a write came to, and when a client is gone.
 #![tactic(auto)]
 
 mod accepting;

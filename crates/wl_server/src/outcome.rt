@@ -9,7 +9,8 @@ use crate::hub::HubFault;
 use std::io;
 use std::io::{ErrorKind, Read, Write};
 
-/// Answers what a call gave, `None` where it would block or was interrupted, and else a fault, which it counts.
+/// Answers what a call gave, `None` if it would block or was interrupted. Anything else is a fault,
+/// which it counts.
 pub(crate) fn settle<T>(faults: &mut u64, outcome: io::Result<T>) -> Result<Option<T>, HubFault>
     ensures answers { Answers outcome result }
     ensures counted { faults.new ≡ count_after faults.old result }

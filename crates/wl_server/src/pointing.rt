@@ -1,4 +1,4 @@
-//! The pointer's lines are taken.
+//! Taking the pointer's lines.
 
 ghost use Rattle.std.specs.Prelude.{◌≡◌, [], ◌∷◌};
 ghost use Rattle.wl_server.specs.Acting.{Takes};

@@ -1,4 +1,4 @@
-//! What clients sent is read.
+//! Reading what clients sent.
 
 ghost use Rattle.std.specs.Prelude.{◌≡◌, ◌<◌, ◌≤◌, length};
 ghost use Rattle.wl_server.specs.Acting.{InTurn, Takes};
@@ -13,10 +13,10 @@ use std::alloc::Allocator;
 use std::io::Write;
 use wl_session::ClientNo;
 
-/// The most reads of a client in a turn.
+/// How often a client is read in a turn, at most.
 const READS: usize = 16;
 
-/// The most bytes of a read.
+/// How many bytes are read at once, at most.
 const PIECE: usize = 4096;
 
 /// Reads each client until it would block.

@@ -8,7 +8,7 @@ use crate::hub::{Hub, HubFault};
 /// What one read of a connection came to.
 #[derive(Clone, Copy, Debug, PartialEq, Eq)]
 pub enum Received {
-    /// So many bytes came, at least one.
+    /// This many bytes came, at least one.
     Bytes(usize),
     /// Nothing came, and the read would block.
     Later,
@@ -16,7 +16,7 @@ pub enum Received {
     Gone,
 }
 
-/// Reads once into the front of `buf`, which has room for a byte or more.
+/// Reads once into the front of `buf`, which has room for at least a byte.
 pub fn receive<H: Hub>(hub: &mut H, conn: &mut H::Conn, buf: &mut [u8]) -> Received
     requires { 0 < length buf.old }
     ensures came { Receives H.reads H.fault_count hub.old conn.old buf.new result hub.new conn.new }

@@ -18,9 +18,9 @@ pub struct Seat<C: Drop> {
     pub has_sent: bool,
     /// Whether a write to it failed.
     pub has_failed: bool,
-    /// How much of the server's time it owes, in nanoseconds, where clients share that.
+    /// How much of the server's time it owes, in nanoseconds, if clients share that.
     pub debt: u64,
-    /// How many bytes it is read by, where clients share the server's time.
+    /// How many bytes of it are read at once, if clients share the server's time.
     pub piece: usize,
 }
 
@@ -40,8 +40,8 @@ impl<C: Drop> Seat<C> {
     }
 }
 
-/// The connections of all clients, by number from 1, and how many were accepted so far. It is seen as that, and as the connection that each
-/// client has.
+/// The connections of all clients, by number from 1, and how many were accepted so far. Contracts
+/// see that number, and the connection that each client has.
 #[derive(Drop)]
 pub struct Connections<C: Drop> {
     pub(crate) seats: [Option<Seat<C>>; MAX_CLIENTS],
@@ -65,7 +65,7 @@ fn no_seats<C: Drop>() -> [Option<Seat<C>>; MAX_CLIENTS]
 }
 
 impl<C: Drop> Connections<C> {
-    /// None was accepted. It takes no memory.
+    /// No connections, and none accepted yet. It takes no memory.
     pub fn new() -> Connections<C>
         ensures { result ≡ nobody }
     {

@@ -1,4 +1,4 @@
-//! What lasts from turn to turn, and the turn.
+//! A service, which lasts from turn to turn, and the turn.
 
 ghost use Rattle.std.specs.Prelude.{◌≡◌, ⊤, OnOk, Option};
 ghost use Rattle.wl_recording.specs.Side.{files_of};
@@ -26,7 +26,8 @@ use std::alloc::Allocator;
 use std::io::Write;
 use wl_recording::{PointerLine, SideFiles};
 
-/// A session whose clients are connections of a hub, with the side files of their stores, and the pointer lines that weren't taken yet.
+/// A session whose clients are connections of a hub, with the side files of their stores, and the
+/// pointer lines that weren't taken yet.
 #[derive(Drop)]
 pub struct Service<A: Allocator, R: Write, H, S> {
     /// The clients, and the frame, with what is recorded.

@@ -84,7 +84,8 @@ fn take_phases<A: Allocator + Copy, R: Write, H: Hub, S: SideFiles, K: Clock, W:
     give_out(service, connections, report)
 }
 
-/// Takes one turn with a viewer as [`turn_viewed`](crate::turn_viewed) does, whose clients share the server's time as those of [`shared_turn`] do.
+/// Takes one turn with a viewer as [`turn_viewed`](crate::turn_viewed) does, in which clients share
+/// the server's time as in [`shared_turn`].
 pub fn shared_turn_viewed<
     A: Allocator + Copy,
     R: Write,
@@ -124,7 +125,8 @@ pub fn shared_turn_viewed<
     Ok(())
 }
 
-/// Serves the clients, and the viewer is told of the frame: the phases of a turn, but those of the pointer's lines and of the viewer's connection.
+/// Serves the clients, and tells the viewer of the frame: the phases of a turn, except those of the
+/// pointer's lines and of the viewer's connection.
 fn take_viewed_phases<
     A: Allocator + Copy,
     R: Write,

@@ -1,4 +1,5 @@
-//! Clients share the server's time: each is read while its share of a turn lasts, and pays for what it took.
+//! Clients share the server's time: each is read while its share of a turn lasts, and pays for what
+//! it took.
 
 ghost use Rattle.std.specs.Prelude.{◌≡◌, ◌≤◌, ℕ, length};
 ghost use Rattle.wl_recording.specs.Side.{files_of};
@@ -18,35 +19,38 @@ use std::time::{Clock, Instant};
 use wl_recording::SideFiles;
 use wl_session::ClientNo;
 
-/// The most that a client owes, in nanoseconds.
+/// How much a client may owe at most, in nanoseconds.
 const MOST_OWED: u64 = 1_000_000_000;
 
-/// The least that a turn pays each client, in nanoseconds.
+/// How much a turn pays each client at least, in nanoseconds.
 const LEAST_PAID: u64 = 50_000;
 
 /// How long all clients together are read in a turn, in nanoseconds.
 const TURN: u64 = 4_000_000;
 
-/// How long each may be at least.
+/// How long each client may be read at least, in nanoseconds.
 const LEAST_SHARE: u64 = 250_000;
 
-/// How long a read takes with what was fed, in nanoseconds, after which a larger one follows.
+/// A read that takes less than this with what it feeds, in nanoseconds, is followed by a larger
+/// one.
 const CHEAP: u64 = 100_000;
 
-/// The most reads of a client in a turn.
+/// How often a client is read in a turn, at most.
 const READS: usize = 16;
 
-/// The least and the most bytes of a read.
+/// How many bytes a read has, at least and at most.
 const LEAST_PIECE: usize = 8;
 
 const PIECE: usize = 4096;
 
-/// How many bytes all clients together are read at once, and how many each may be at least: what one read asks can't be cut short.
+/// How many bytes of all clients together are read at once, and how many of each at least. What one
+/// read asks can't be cut short.
 const TOGETHER: u64 = 1024;
 
 const LEAST_MOST: u64 = 32;
 
-/// By which clock clients share the server's time, and when they were paid last. Where the clock tells no time, nothing is owed.
+/// The clock by which clients share the server's time, and when they were paid last. If it tells no
+/// time, nothing is owed.
 #[derive(Drop)]
 pub struct Shares<'a, K: Clock> {
     clock: &'a K,
@@ -59,7 +63,8 @@ impl<'a, K: Clock> Shares<'a, K> {
         Shares { clock, last: None }
     }
 
-    /// The share of each of so many clients, in a turn that begins now: it is paid for the time since the last one began.
+    /// The share of each of this many clients, in a turn that begins now. It is paid for the time
+    /// since the last one began.
     fn share(&mut self, count: u64) -> Share<'a, K>
         ensures { LEAST_PAID ≤ result.paid }
     {
@@ -106,7 +111,8 @@ impl<K: Clock> Share<'_, K> {
         (TOGETHER / self.count.max(1)).max(LEAST_MOST).min(TOGETHER) as usize
     }
 
-    /// What a client owes that began to be served then: what all of them would have taken meanwhile.
+    /// What a client owes, in nanoseconds, that began to be served then: what all of them would
+    /// have taken meanwhile.
     fn owed(self, begun: Option<Instant>) -> u64
         ensures { result ≤ MOST_OWED }
     {
@@ -114,7 +120,7 @@ impl<K: Clock> Share<'_, K> {
     }
 }
 
-/// How long it is since this moment, in nanoseconds, as far as the clock tells.
+/// How long it is since this moment, in nanoseconds; 0 if the clock doesn't tell.
 fn since<K: Clock>(clock: &K, begun: Option<Instant>) -> u64 {
     let (Some(begun), Ok(now)) = (begun, Instant::now(clock)) else {
         return 0;
@@ -195,7 +201,8 @@ fn share_seat<A: Allocator + Copy, R: Write, H: Hub, S: SideFiles, K: Clock>(
     charge(seat, piece, share.owed(begun));
 }
 
-/// A client that sent bytes owes so much, and is to be read by pieces of this size.
+/// Charges a client that sent bytes this debt, in nanoseconds, and sets the size of the pieces by
+/// which it is read.
 fn charge<C: Drop>(seat: &mut Option<Seat<C>>, piece: usize, debt: u64)
     requires { debt ≤ MOST_OWED }
     ensures { AreCharged seat.old seat.new }
@@ -285,7 +292,8 @@ fn read_client<A: Allocator + Copy, R: Write, H: Hub, K: Clock>(
     piece
 }
 
-/// The size of the first piece, where this one was kept, and the most may be so many bytes.
+/// The size of the first piece, in bytes: the one that was kept, but at most `most`, and at least
+/// [`LEAST_PIECE`].
 fn first_piece(piece: usize, most: usize) -> usize
     requires { most ≤ PIECE }
     ensures least { LEAST_PIECE ≤ result }
@@ -294,7 +302,8 @@ fn first_piece(piece: usize, most: usize) -> usize
     piece.min(most).max(LEAST_PIECE)
 }
 
-/// The size of the next piece, where one of this size took so long, in nanoseconds, and the most may be so many bytes.
+/// The size of the next piece, in bytes, after one of this size took this long, in nanoseconds. It
+/// is at most `most`, and at least [`LEAST_PIECE`].
 fn next_piece(piece: usize, most: usize, took: u64) -> usize
     requires piece { piece ≤ PIECE }
     requires most { most ≤ PIECE }
@@ -308,7 +317,8 @@ fn next_piece(piece: usize, most: usize, took: u64) -> usize
     }
 }
 
-/// Nobody is passed over for ever: who owes a second at most is read in the 20,000th turn at the latest.
+/// Nobody is passed over for ever: a client that owes at most a second is read in the 20,000th turn
+/// at the latest.
 pub fn nobody_is_passed_over()
     ensures { NobodyIsPassedOver }
 {}

@@ -1,4 +1,4 @@
-//! A frame is shown.
+//! Showing a frame.
 
 ghost use Rattle.std.specs.Prelude.{◌≡◌, OnOk};
 ghost use Rattle.std.specs.Io.KnownBytes.{Appends};

@@ -13,10 +13,12 @@ use std::marker::Model;
 use std::net::Net;
 use std::path::AsPath;
 
-/// The hub over a Unix socket, whose listener and connections don't block. It is seen as how many faults there were.
+/// The hub over a Unix socket, whose listener and connections don't block. Contracts see how many
+/// calls failed.
 ///
-/// The system's word, and no clause, is that a read of no bytes is the end of what a client sends, and that no call waits: a client that
-/// sends along a descriptor whose closing waits can make a read wait.
+/// Two things are the system's word, and no clause. A read of no bytes is the end of what a client
+/// sends. No call waits, except that a client can make a read wait: it sends along a descriptor
+/// whose closing waits.
 #[derive(Drop)]
 pub struct SocketHub {
     listener: UnixListener,
@@ -32,8 +34,13 @@ impl Model for SocketHub {
 }
 
 impl SocketHub {
-    /// Listens at a path, where it makes the socket's file. It fails as the system says: where the path is in use or too long for a
-    /// socket, or its folder is missing or can't be written. The file stays when the hub is dropped.
+    /// Listens at a path, and makes the socket's file there. The file stays when the hub is
+    /// dropped.
+    ///
+    /// # Errors
+    ///
+    /// What the system says: the path is in use, or too long for a socket; its folder is missing,
+    /// or can't be written.
     pub fn bind<R: Files + Net, P: AsPath>(rt: &R, path: P) -> io::Result<SocketHub>
         ensures { IfOk result (λ hub. hub ≡ 0) }
     {
@@ -44,9 +51,10 @@ impl SocketHub {
     }
 }
 
-/// What a socket gives and takes isn't known, nor who connects, so clauses tell only that a connection stays the one that it is, and
-/// how faults are counted. A call that the system cut off is answered as one that would block, since it may be made again. All else
-/// that the system refuses is a fault. A connection that is dropped is closed, as by `close`.
+/// What a socket gives and takes isn't known, nor who connects. So clauses tell only that a
+/// connection stays the one that it is, and how faults are counted. A call that the system
+/// interrupted is answered as one that would block, since it may be made again. All else that the
+/// system refuses is a fault. Dropping a connection closes it, as `close` does.
 impl Hub for SocketHub {
     type Conn = UnixStream;
 

@@ -1,4 +1,4 @@
-//! The viewer is told what changed.
+//! Telling the viewer what changed.
 
 ghost use Rattle.std.specs.Prelude.{◌≡◌, ◌<◌, ◌&&◌, ◌++◌, Option, OnOk, Some, not, slice_get};
 ghost use Rattle.spec_desktop.specs.Desktop.{Desktop};
@@ -68,7 +68,8 @@ fn show_viewed_frame<A: Allocator + Copy, C: Drop, W: Write, P: Write>(
     write_image(frame.pixels, ppm).map_err(write_failed)
 }
 
-/// What changed by a frame is untold too; where nothing waits to be sent, an update of all that is untold is made.
+/// Adds what a frame changed to what is untold. If nothing waits to be sent, it makes an update of
+/// all that is untold.
 fn refresh<A: Allocator + Copy, C: Drop>(
     place: &mut Option<Watcher<A, C>>,
     damage: &Damage<A>,
@@ -101,7 +102,8 @@ fn refresh_watcher<A: Allocator + Copy, C: Drop>(
     }
 }
 
-/// Whether a viewer is to be told of a frame with this damage: it didn't fail, and its output is as large.
+/// Whether a viewer is to be told of a frame with this damage: it didn't fail, and its output is as
+/// large.
 fn is_fit<A: Allocator + Copy, C: Drop>(
     watcher: &Watcher<A, C>,
     damage: &Damage<A>,
@@ -125,7 +127,7 @@ pub(crate) fn tell<A: Allocator + Copy, R: Write, V: Hub>(
     dismiss(hub, place, recorded, time);
 }
 
-/// The viewer is answered what is due, and written to, if there is one.
+/// Answers the viewer what is due, and writes to it, if there is one.
 fn reply<A: Allocator + Copy, V: Hub>(
     hub: &mut V,
     place: &mut Option<Watcher<A, V::Conn>>,
@@ -157,7 +159,7 @@ fn answer<A: Allocator + Copy, C: Drop>(
     }
 }
 
-/// Out of memory, a part of the answers may wait.
+/// Puts the answers that are due. Out of memory, a part of them may wait.
 fn put_answers<A: Allocator + Copy>(
     viewer: &mut Viewer<A>,
     session: &Session<A>,
@@ -174,7 +176,7 @@ fn put_answers<A: Allocator + Copy>(
     viewer.tell_bad()
 }
 
-/// Tells of the windows of the output from bottom to top, if the viewer asked for them.
+/// Tells the windows of the output from bottom to top, if the viewer asked for them.
 fn put_windows<A: Allocator + Copy>(
     viewer: &mut Viewer<A>,
     session: &Session<A>,
@@ -193,7 +195,7 @@ fn put_windows<A: Allocator + Copy>(
     Ok(())
 }
 
-/// Tells of the window at place `k` of the stacking order, counted from 0 at the bottom.
+/// Tells the window at place `k` of the stacking order, counted from 0 at the bottom.
 fn put_window<A: Allocator + Copy>(
     viewer: &mut Viewer<A>,
     session: &Session<A>,

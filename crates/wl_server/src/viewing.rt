@@ -12,7 +12,8 @@ pub struct Watcher<A: Allocator, C: Drop> {
     /// The hub's connection.
     pub conn: C,
     pub viewer: Viewer<A>,
-    /// Whether it was told all that changed up to the last frame, so that what it asked is to be answered.
+    /// Whether it was told all that changed up to the last frame, so what it asked is to be
+    /// answered.
     pub is_told: bool,
     /// Whether its connection failed or ended, or memory for it was refused.
     pub has_failed: bool,

@@ -7,7 +7,7 @@ use std::alloc::Allocator;
 use std::marker::Model;
 use wl_recording::PointerLine;
 
-/// Lines of a pointer file, of which some were taken. It is seen as those that are left.
+/// Lines of a pointer file, of which some were taken. Contracts see those that are left.
 #[derive(Drop)]
 pub struct Waiting<A: Allocator> {
     lines: Vec<PointerLine, A>,
@@ -26,7 +26,7 @@ impl<A: Allocator> Model for Waiting<A> {
 }
 
 impl<A: Allocator> Waiting<A> {
-    /// None was taken.
+    /// All these lines; none was taken.
     pub fn new(lines: Vec<PointerLine, A>) -> Waiting<A>
         ensures { result ≡ lines.items }
     {

@@ -1,4 +1,4 @@
-//! Clients are sent what waits for them.
+//! Sending clients what waits for them.
 
 ghost use Rattle.std.specs.Prelude.{◌≡◌, length};
 ghost use Rattle.wl_server.specs.Acting.{InTurn, Takes};

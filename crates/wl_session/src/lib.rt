@@ -1,4 +1,6 @@
-//! The core of a compositor: clients, their streams, and steps of all of them in any order.
+//! The core of a compositor: clients, their streams, and steps of all of them in any order. Begin
+//! with [`Session`] and its `run`. Sockets, viewers and recordings are left to wl_server, wl_viewer
+//! and wl_replay.
 #![tactic(auto)]
 
 mod laws;

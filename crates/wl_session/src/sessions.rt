@@ -25,8 +25,10 @@ use wl_client::{Config, Served, StoreNo};
 use wl_desk::{ClientNo, ConnectError, Desk, Done, Fed, Stored};
 use wl_paint::{Damage, FrameError, Framebuffer};
 
-/// All clients and the last frame. It is seen as the output with what is kept of each client, by number
-/// from 1, what is to be painted again since the last frame, that frame, and what was painted for it.
+/// All clients and the last frame. Contracts see these values:
+/// - the output, with what is kept of each client, by number from 1;
+/// - what is to be painted again since the last frame;
+/// - that frame, and what was painted for it.
 #[derive(Drop)]
 pub struct Session<A: Allocator> {
     pub(crate) desk: Desk<A>,
@@ -89,8 +91,9 @@ impl<A: Allocator + Copy> Session<A> {
         self.desk.connect()
     }
 
-    /// A piece of a client's stream comes. A stream may be cut anywhere; each whole message is taken once its last byte
-    /// is there. After an end the rest of the piece is dropped, and a piece for an ended client does nothing.
+    /// A piece of a client's stream comes. A stream may be cut anywhere: each whole message is
+    /// taken once its last byte is there. After an end the rest of the piece is dropped, and a
+    /// piece for an ended client does nothing.
     pub fn feed(&mut self, client: ClientNo, piece: &[u8]) -> Fed
         ensures step { TakesStep (Feed client piece.now) (Done.Feed result) self.old.desk self.new.desk }
         ensures course { TakesCourse (Feed client piece.now) (Done.Feed result) self.old self.new }
@@ -106,7 +109,7 @@ impl<A: Allocator + Copy> Session<A> {
         self.status(client)
     }
 
-    /// Takes each whole message of what came from a client, until one ends it.
+    /// Takes each whole message that came from a client, until one ends it.
     fn serve_all(&mut self, client: ClientNo)
         ensures serves { (d : Desktop) → Agrees self.old.desk d → (served : Took client self.old self.new d) × IsIdleIn client served.desktop }
         ensures frame { self.new.frame ≡ self.old.frame }
@@ -116,8 +119,9 @@ impl<A: Allocator + Copy> Session<A> {
         }
     }
 
-    /// Puts bytes into a client's store, from `at` on: its k-th pool has the store k. `NoClient` for an ended client too, then
-    /// `NoStore`, then `OutOfRange` where they pass the store's end; nothing is changed then.
+    /// Puts bytes into a client's store, from `at` on: its k-th pool has the store k. Errors come
+    /// in this order, and change nothing: `NoClient`, also for an ended client, `NoStore`, and
+    /// `OutOfRange` if the bytes pass the store's end.
     pub fn store(&mut self, client: ClientNo, store: StoreNo, at: u32, bytes: &[u8]) -> Stored
         ensures step { TakesStep (Store client store at bytes.now) (Done.Store result) self.old.desk self.new.desk }
         ensures course { TakesCourse (Store client store at bytes.now) (Done.Store result) self.old self.new }
@@ -126,15 +130,16 @@ impl<A: Allocator + Copy> Session<A> {
         self.desk.store(client, store, at, bytes)
     }
 
-    /// How many bytes a client's store has. None where the client or the store isn't live.
+    /// How many bytes a client's store has. `None` if the client or the store isn't live.
     pub fn store_size(&self, client: ClientNo, store: StoreNo) -> Option<u32>
         ensures { (d : Desktop) → Agrees self.now.desk d → result ≡ store_size_of store (peer_at client d) }
     {
         self.desk.store_size(client, store)
     }
 
-    /// The least number of a client's live store that is above this one; from 0 on, each live store after the one before. None where there
-    /// is none, as where the client isn't live. It takes no memory.
+    /// The least number of a client's live store that is above this one. From 0 on it gives each
+    /// live store after the one before. `None` if there is none, or the client isn't live. It takes
+    /// no memory.
     pub fn next_store(&self, client: ClientNo, number: StoreNo) -> Option<StoreNo>
         ensures next { (d : Desktop) → Agrees self.now.desk d → result ≡ next_store_of number (peer_at client d) }
         ensures rises { IfSome result (λ next. number < next) }
@@ -142,7 +147,7 @@ impl<A: Allocator + Copy> Session<A> {
         self.desk.next_store(client, number)
     }
 
-    /// A client goes. True where it was alive.
+    /// A client closed its connection. The answer is true if it was alive.
     pub fn gone(&mut self, client: ClientNo) -> bool
         ensures step { TakesStep (Leave client) (Done.Gone result) self.old.desk self.new.desk }
         ensures course { TakesCourse (Leave client) (Done.Gone result) self.old self.new }
@@ -155,7 +160,8 @@ impl<A: Allocator + Copy> Session<A> {
         true
     }
 
-    /// So many of a client's unsent bytes were sent. False and unchanged where there are fewer.
+    /// Drops this many of a client's unsent bytes, which were sent. If there are fewer, the answer
+    /// is false and nothing changes.
     pub fn sent(&mut self, client: ClientNo, count: usize) -> bool
         ensures step { TakesStep (Send client count) (Done.Sent result) self.old.desk self.new.desk }
         ensures course { TakesCourse (Send client count) (Done.Sent result) self.old self.new }
@@ -164,7 +170,8 @@ impl<A: Allocator + Copy> Session<A> {
         self.desk.sent(client, count)
     }
 
-    /// Gives back the number of a client that ended, with its unsent bytes. True where it had ended.
+    /// Gives back the number of a client that ended, with its unsent bytes. The answer is true if
+    /// it had ended.
     pub fn close(&mut self, client: ClientNo) -> bool
         ensures step { TakesStep (Close client) (Done.Close result) self.old.desk self.new.desk }
         ensures course { TakesCourse (Close client) (Done.Close result) self.old self.new }
@@ -173,24 +180,28 @@ impl<A: Allocator + Copy> Session<A> {
         self.desk.close(client)
     }
 
-    /// The bytes that wait to be sent to a client, an ended one too. None where no client has the number.
+    /// The bytes that wait to be sent to a client, an ended one too. `None` if no client has the
+    /// number.
     pub fn out(&self, client: ClientNo) -> Option<&[u8]>
         ensures { (d : Desktop) → Agrees self.now.desk d → option_copied result ≡ unsent_of (peer_at client d) }
     {
         self.desk.out(client)
     }
 
-    /// How a client is.
+    /// How a client fares.
     pub fn status(&self, client: ClientNo) -> Fed
         ensures { (d : Desktop) → Agrees self.now.desk d → result ≡ status_of (peer_at client d) }
     {
         self.desk.status(client)
     }
 
-    /// A frame is shown at this time, in milliseconds. What was damaged since the last one is painted from nothing, and is the frame's damage; every
-    /// other pixel is as in the frame before. Where a window isn't opaque at a point that its opaque region holds, it is free what a damaged pixel
-    /// gets. Then the clients are told that their frame callbacks that are due are done (wayland.xml, wl_surface.frame); one to which that isn't
-    /// queued ends, and is still in this frame.
+    /// Shows a frame at this time, in milliseconds. What was damaged since the last one is painted
+    /// from nothing, and is the frame's damage. Every other pixel is as in the frame before. A
+    /// damaged pixel may get any colour if a window isn't opaque there although its opaque region
+    /// holds the point.
+    ///
+    /// Then the clients are told that their due frame callbacks are done (wayland.xml,
+    /// wl_surface.frame). If that isn't queued, the client ends. It is still in this frame.
     pub fn tick(&mut self, time: u32) -> Frame<'_, A>
         ensures* after { sem 𝓛 (Rests (the_row A.row A.Allocator) self.entry (λ v. TakesStep (Tick time) Done.Tick self.old.desk v.desk × (v.frame ≡ result.pixels.now) × TakesCourse (Tick time) Done.Tick self.old v)) }
         ensures frame { (d : Desktop) → Agrees self.old.desk d → IsNextFrame d self.old.frame result.pixels.now (has result.damage.now) }
@@ -218,9 +229,10 @@ impl<A: Allocator + Copy> Session<A> {
         }
     }
 
-    /// The pointer goes to a point of the output in pixels, held within it, at a time in milliseconds. The surface that keeps the focus is
-    /// told of the motion; where the focus moves, the one that had it is left and the other entered (wayland.xml, wl_pointer.motion, leave
-    /// and enter). A client that can't be told ends.
+    /// The pointer moves to a point of the output in pixels, held within it, at a time in
+    /// milliseconds. If the focus stays, its surface is told of the motion. If it moves, the old
+    /// surface is left and the new one entered (wayland.xml, wl_pointer.motion, leave and enter). A
+    /// client that can't be told ends.
     pub fn motion(&mut self, time: u32, x: i32, y: i32)
         ensures step { TakesStep (Motion time x y) Done.Motion self.old.desk self.new.desk }
         ensures course { TakesCourse (Motion time x y) Done.Motion self.old self.new }
@@ -230,10 +242,14 @@ impl<A: Allocator + Copy> Session<A> {
         end_all(&mut self.desk);
     }
 
-    /// A button of the pointer, by the kernel's number of it, is pressed or released at a time in milliseconds. The surface that has the focus is
-    /// told (wayland.xml, wl_pointer.button), and a press over a toplevel puts that and all that is stacked with it on top of the others. Until the
-    /// last button that is down is released the focus stays, and what xdg_toplevel.move moves goes along with the pointer. A press where 16
-    /// buttons are down or this one is, and a release of one that isn't, do nothing. A client that can't be told ends.
+    /// A button of the pointer, by the kernel's number of it, is pressed or released at a time in
+    /// milliseconds. The surface that has the focus is told (wayland.xml, wl_pointer.button). A
+    /// press over a toplevel puts that, and all that is stacked with it, on top of the others.
+    ///
+    /// Until the last button that is down is released, the focus stays, and a toplevel that
+    /// xdg_toplevel.move drags moves with the pointer. A press does nothing if 16 buttons are down,
+    /// or this one is. A release of one that isn't down does nothing. A client that can't be told
+    /// ends.
     pub fn button(&mut self, time: u32, button: u32, pressed: bool)
         ensures step { TakesStep (Button time button pressed) Done.Button self.old.desk self.new.desk }
         ensures course { TakesCourse (Button time button pressed) Done.Button self.old self.new }
@@ -279,15 +295,21 @@ impl<A: Allocator + Copy> Session<A> {
         }
     }
 
-    /// Steps in order, with a copy of each tick's frame. A copy has its memory before its tick is taken.
+    /// Takes steps in order, with a copy of each tick's frame. A copy has its memory before its
+    /// tick is taken.
     ///
-    /// An `Err` says how many steps were taken; the next found no memory, and nothing of it was taken.
+    /// An `Err` says how many steps were taken. The next found no memory, and nothing of it was
+    /// taken. The shots of the steps that were taken are lost, but what these left is as right as
+    /// after any others (`err`).
     ///
-    /// A viewer that held the frame before and then copied only the runs of each shot holds, at each tick, every window painted from nothing in
-    /// stacking order, at each point that no window covers of a client that broke a promise since it connected (`seen`): to damage what it
-    /// changes, to leave a buffer that is shown as it is, and to call only opaque pixels opaque (wayland.xml, wl_surface.damage, wl_buffer.release,
-    /// wl_surface.set_opaque_region). It holds the last frame then, and what comes next is seen from there. After an `Err` the shots of the steps
-    /// that were taken are lost, but what they left is as right as after any others (`err`).
+    /// A viewer that held the frame before copies only the runs of each shot. At each tick it holds
+    /// every window, painted from nothing in stacking order. That leaves out the points under a
+    /// window of a client that broke a promise since it connected (`seen`). It holds the last frame
+    /// at the end, and what comes next is seen from there.
+    ///
+    /// A client promises to damage what it changes, to leave a shown buffer as it is, and to call
+    /// only opaque pixels opaque (wayland.xml, wl_surface.damage, wl_buffer.release,
+    /// wl_surface.set_opaque_region).
     pub fn run(&mut self, steps: &[Step]) -> Result<Vec<Shot<A>, A>, RunError>
         ensures ok { IfOk result (λ shots. TakesSteps (map act_of steps.now) (map film_of shots.items) self.old self.new) }
         ensures err { IfErr result (λ e. (films : List Film) × IsSeen (map act_of (take (taken_by e) steps.now)) films self.old self.new) }
@@ -303,7 +325,8 @@ impl<A: Allocator + Copy> Session<A> {
         Ok(shots)
     }
 
-    /// Takes one step of a run. False where it found no memory; then nothing of it was taken.
+    /// Takes one step of a run. The answer is false if it found no memory; then nothing of it was
+    /// taken.
     fn take_step(&mut self, step: &Step, shots: &mut Vec<Shot<A>, A>) -> bool
         ensures taken { result ≡ true → (films : List Film) × (map film_of shots.new.items ≡ map film_of shots.old.items ++ films) × LeadsTo (act_of step.now) films self.old self.new }
         ensures refused { result ≡ false → (self.new ≡ self.old) × IsTrue (takes_memory (act_of step.now)) }
@@ -328,7 +351,8 @@ impl<A: Allocator + Copy> Session<A> {
         }
     }
 
-    /// Takes a tick of a run. False where its shot found no memory; then nothing of it was taken.
+    /// Takes a tick of a run. The answer is false if its shot found no memory; then nothing of it
+    /// was taken.
     fn take_tick(&mut self, time: u32, shots: &mut Vec<Shot<A>, A>) -> bool
         ensures taken { result ≡ true → (films : List Film) × (map film_of shots.new.items ≡ map film_of shots.old.items ++ films) × LeadsTo (Tick time) films self.old self.new }
         ensures refused { result ≡ false → self.new ≡ self.old }
@@ -340,7 +364,7 @@ impl<A: Allocator + Copy> Session<A> {
         }
     }
 
-    /// A tick with a copy of its frame. An `Err` changes nothing.
+    /// Takes a tick and copies its frame. An `Err` changes nothing.
     fn shoot(&mut self, time: u32, shots: &mut Vec<Shot<A>, A>) -> Result<(), AllocError>
         ensures ok { OnOk result ((film : Film) × (map film_of shots.new.items ≡ map film_of shots.old.items ++ film ∷ [])
             × LeadsTo (Tick time) (film ∷ []) self.old self.new) }
@@ -357,7 +381,7 @@ impl<A: Allocator + Copy> Session<A> {
     }
 }
 
-/// The runs of what is damaged in the rows of so high an output, row by row from the top.
+/// The runs of damaged points of an output of this height, row by row from the top.
 pub fn runs_of<A: Allocator>(
     alloc: A,
     damage: &Damage<A>,
@@ -392,7 +416,7 @@ fn append_runs<A: Allocator>(
     Ok(())
 }
 
-/// Appends bytes for which there is room.
+/// Appends bytes. There is room for them.
 fn append_reserved<A: Allocator>(bytes: &mut Vec<u8, A>, more: &[u8])
     requires { vec_len bytes.old + length more.now ≤ vec_capacity bytes.old }
     ensures { bytes.new.items ≡ bytes.old.items ++ more.now }

@@ -1,4 +1,4 @@
-//! The ends of a step: a client that can't be told ends, and the focus of the pointer is settled again.
+//! The ends of a step: a client that can't be told ends, and the pointer's focus is settled again.
 
 ghost use Rattle.std.specs.Prelude.{◌≡◌, ℕ, ◌≤◌, length};
 ghost use Rattle.wl_scene.specs.Marking.{IsAsLarge};
@@ -11,8 +11,8 @@ use wl_desk::{Desk, MAX_CLIENTS};
 /// How often the focus may have to be settled in a step: each time but the last ends a client.
 const SETTLINGS: usize = MAX_CLIENTS + 1;
 
-/// The focus is settled, and the client of the least number that can't be told of it ends, and the focus is settled again, and so on until
-/// nobody is to end. The windows of those that end are marked, and no more.
+/// Settles the focus, and ends the client with the least number that can't be told of it, again and
+/// again, until nobody is to end. Only the windows of clients that end are marked.
 pub(crate) fn settle_all<A: Allocator + Copy>(desk: &mut Desk<A>)
     ensures settles { SettlesFrom desk.old desk.new }
     ensures sides { IsAsLarge desk.old.damage desk.new.damage }
@@ -28,7 +28,7 @@ pub(crate) fn settle_all<A: Allocator + Copy>(desk: &mut Desk<A>)
     }
 }
 
-/// The same where the focus is settled already: nothing is done unless somebody is to end.
+/// The same if the focus is settled already: nothing is done unless a client is to end.
 pub(crate) fn end_all<A: Allocator + Copy>(desk: &mut Desk<A>)
     ensures ends { EndsFrom desk.old desk.new }
     ensures sides { IsAsLarge desk.old.damage desk.new.damage }

@@ -11,7 +11,8 @@ use std::alloc::Allocator;
 use wl_desk::ShownWindow;
 
 impl<A: Allocator + Copy> Session<A> {
-    /// How many windows the output has: toplevels, popups and subsurfaces that show a buffer. It takes no memory.
+    /// How many windows the output has: toplevels, popups and subsurfaces that show a buffer. It
+    /// takes no memory.
     pub fn window_count(&self) -> usize
         ensures count { result ≡ windows_kept self.now.desk.kept }
         ensures windows { (d : Desktop) → Agrees self.now.desk d → result ≡ length (all_windows d) }
@@ -19,10 +20,11 @@ impl<A: Allocator + Copy> Session<A> {
         self.desk.window_count()
     }
 
-    /// The window at place `k` of the stacking order, counted from 0 at the bottom: its client, the id of its wl_surface, its upper left corner
-    /// on the output in pixels, and its size in surface coordinates. It takes no memory.
+    /// The window at place `k` of the stacking order, counted from 0 at the bottom. It has its
+    /// client, the id of its wl_surface, its upper left corner in pixels of the output, and its
+    /// size in surface coordinates. It takes no memory.
     ///
-    /// That [`Session::window_count`] is above `k` is the caller's condition.
+    /// The caller makes sure that [`Session::window_count`] is above `k`.
     pub fn window(&self, k: usize) -> ShownWindow
         requires { k < windows_kept self.now.desk.kept }
         ensures { (d : Desktop) → Agrees self.now.desk d → slice_get (shown_windows d) k ≡ Some result }

@@ -21,7 +21,7 @@ pub enum Step<'a> {
         at: u32,
         bytes: &'a [u8],
     },
-    /// A client goes.
+    /// A client closes its connection.
     Gone {
         client: ClientNo,
     },
@@ -29,7 +29,7 @@ pub enum Step<'a> {
     Tick {
         time: u32,
     },
-    /// So many of a client's unsent bytes were sent.
+    /// This many of a client's unsent bytes were sent.
     Sent {
         client: ClientNo,
         count: usize,
@@ -38,14 +38,15 @@ pub enum Step<'a> {
     Close {
         client: ClientNo,
     },
-    /// The pointer goes to a point of the output, in pixels and held within it. `time` is in milliseconds, from any start.
+    /// The pointer moves to a point of the output, in pixels and held within it. `time` is in
+    /// milliseconds, from any start.
     Motion {
         time: u32,
         x: i32,
         y: i32,
     },
-    /// A button of the pointer is pressed or released. `time` is in milliseconds, from any start, and `button` is the kernel's number of the
-    /// button.
+    /// A button of the pointer is pressed or released. `time` is in milliseconds, from any start.
+    /// `button` is the kernel's number of the button.
     Button {
         time: u32,
         button: u32,
@@ -56,7 +57,8 @@ pub enum Step<'a> {
 /// Why a run stopped.
 #[derive(Clone, Copy, Debug, PartialEq, Eq, Error)]
 pub enum RunError {
-    /// A connect or the copy of a frame found no memory. So many steps were taken, and nothing of the next.
+    /// A connect or the copy of a frame found no memory. This many steps were taken, and nothing of
+    /// the next.
     #[error("out of memory after {0} steps")]
     Memory(usize),
 }

@@ -3,7 +3,8 @@
 use std::alloc::AllocFailed;
 use thiserror::Error;
 
-/// Why a request of the shell is refused: the errors of the interfaces of xdg-shell.xml, and two for what the compositor lacks.
+/// Why a request of the shell is refused: the errors of the interfaces of xdg-shell.xml, and two
+/// for what the compositor lacks.
 #[derive(Clone, Copy, Debug, PartialEq, Eq, Error)]
 pub enum ShellError {
     /// xdg_wm_base: role.
@@ -48,7 +49,7 @@ pub enum ShellError {
     /// xdg_positioner: invalid_input.
     #[error("what is set of the positioner isn't valid")]
     InvalidInput,
-    /// 64 configures of the xdg_surface weren't acknowledged.
+    /// 64 configures of the xdg_surface wait to be acknowledged.
     #[error("too many configures wait for an acknowledgement")]
     TooMany,
     /// There is no memory for it.

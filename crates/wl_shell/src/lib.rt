@@ -1,5 +1,9 @@
-//! The xdg_surfaces of a client, by the numbers of their surfaces, with their toplevels and popups; positioners, and where popups are placed by them
-//! (xdg-shell.xml).
+//! The xdg_surfaces of a client (xdg-shell.xml), with their toplevels and popups; positioners, and
+//! where they place popups. Begin with [`Shell`], then [`XdgSurface`], [`Popup`] and
+//! [`Positioner`]. Whose window is over which is left to wl_scene, and what a client is told to
+//! wl_requests.
+//!
+//! An xdg_surface is found by the number of its surface.
 #![tactic(auto)]
 
 ghost use Rattle.wl_shell.specs.Laws.{AcknowledgementForgets, ChangesStand, MovesAgree};
@@ -30,46 +34,49 @@ pub use shell::{NewPopup, PopupNo, Shell};
 pub use stage::Stage;
 pub use xdg_surface::{Toplevel, XdgSurface};
 
-/// An acknowledgement of a serial that waits leaves fewer.
+/// An acknowledgement leaves fewer configures waiting.
 pub fn acknowledgement_forgets()
     ensures { AcknowledgementForgets }
 {}
 
-/// A popup that is flipped, slid and resized, one after the other, ends at the place that the definition gives it (xdg-shell.xml,
-/// xdg_positioner.set_constraint_adjustment).
+/// A popup that is flipped, slid and resized, in this order, ends at the place that the definition
+/// gives it (xdg-shell.xml, xdg_positioner.set_constraint_adjustment).
 pub fn moves_agree()
     ensures { MovesAgree }
 {}
 
-/// What is kept of an xdg_surface stands for what the definition says of it, and does so after each call too.
+/// The values kept of an xdg_surface stand for what the definition says of it, and still do after
+/// each call.
 pub fn changes_stand()
     ensures { ChangesStand }
 {}
 
-/// What is kept of all xdg_surfaces of a client stands for them, and does so after each change of one.
+/// The values kept of all xdg_surfaces of a client stand for them, and still do after each change
+/// of one.
 pub fn shells_stand()
     ensures { ShellsStand }
 {}
 
-/// What is found among what is kept of all xdg_surfaces of a client is what is found among those that it stands for: whether one may be the
-/// parent of a popup, has a popup on it, or lets one grab.
+/// A search among the values kept finds what the definition finds: whether an xdg_surface may be
+/// the parent of a popup, has a popup on it, or lets one grab.
 pub fn shells_find()
     ensures { ShellsFind }
 {}
 
-/// Which popups go with a popup or a toplevel that is dismissed is what the definition says, where each is younger than its parent and a client
-/// has no more than 256.
+/// The popups that go when a popup or toplevel is dismissed are those that the definition names.
+/// Each popup is younger than its parent, and a client has at most 256.
 pub fn descents_found()
     ensures { DescentsFound }
 {}
 
-/// Popups that are dismissed one by one, until all that go are, come to what the definition makes of them at once.
+/// Popups that are dismissed one by one, until all that go are gone, come to what the definition
+/// makes of them at once.
 pub fn dismissals_end()
     ensures { DismissalsEnd }
 {}
 
-/// What is found of popups is what comes next in order of creation: the first, the next and the one before, and the newest that goes with a
-/// popup or a toplevel that is dismissed, until all went.
+/// A search for a popup finds the next in order of creation: the first, the next, and the one
+/// before. It also finds the newest that still goes when a popup or toplevel is dismissed.
 pub fn popups_follow()
     ensures { PopupsFollow }
 {}

@@ -1,10 +1,11 @@
-//! Where a popup lies on one axis (xdg-shell.xml, xdg_positioner). Places are in pixels from the corner of its parent's window geometry.
+//! Where a popup lies on one axis (xdg-shell.xml, xdg_positioner). Places are in pixels from the
+//! corner of its parent's window geometry.
 
 ghost use Rattle.std.specs.Prelude.{◌≡◌, ◌-◌, ◌+ℤ◌, ◌-ℤ◌, ◌^◌, ◌≤ℤ◌, neg_ℤ, pos};
 ghost use Rattle.wl_shell.specs.Placing.{IsNear, IsUpTo, axis_of, edge_of, end_within, first_within};
 ghost use Rattle.wl_shell.specs.Positioner.{edge_x, edge_y, flipped, is_constrained, nearest, part_within, placed_on, resized, slid, start_of, up_to_edge};
 
-/// A place so far behind another one, or before it.
+/// The place that is `by` behind another one, or before it.
 fn sum(place: i64, by: i64) -> i64
     requires place { IsNear place }
     requires by { IsNear by }
@@ -21,7 +22,7 @@ fn difference(place: i64, from: i64) -> i64
     place - from
 }
 
-/// How far two places are from each other, of which the first isn't behind the second.
+/// How far the second place is behind the first, which isn't behind it.
 fn distance(from: i64, to: i64) -> i32
     requires ordered { from ≤ℤ to }
     requires near { (to -ℤ from) ≤ℤ pos (2 ^ 31 - 1) }
@@ -73,7 +74,7 @@ impl Edge {
         }
     }
 
-    /// How much of a length lies before the edge: nothing, half of it, rounded down, or all.
+    /// How much of a length lies before the edge: nothing, half of it (rounded down), or all.
     fn before(self, length: i32) -> i64
         ensures exact { result ≡ up_to_edge (edge_of self) length }
         ensures low { neg_ℤ (pos (2 ^ 31)) ≤ℤ result }
@@ -102,7 +103,8 @@ pub(crate) struct Axis {
 }
 
 impl Axis {
-    /// Where the popup begins: at the anchor, less what of it gravity puts before that, and moved by the offset.
+    /// Where the popup begins: at the anchor, less the part that gravity puts before it, moved by
+    /// the offset.
     fn popup_start(&self) -> i64
         ensures exact { result ≡ start_of (axis_of self.now) }
         ensures near { IsNear result }
@@ -132,7 +134,8 @@ pub(crate) struct Allowed {
     pub resize: bool,
 }
 
-/// Within what a popup should lie on one axis, as it stands in the output, where its parent's corner stands too.
+/// The bounds within which a popup should lie on one axis, in pixels of the output, and where its
+/// parent's corner stands there.
 #[derive(Clone, Copy)]
 pub(crate) struct Bounds {
     pub start: i32,
@@ -164,7 +167,8 @@ impl Bounds {
         start < self.first() || self.end() < sum(start, i64::from(size))
     }
 
-    /// The nearest place to `start` from which such a popup lies within the bounds, or begins or ends with them where it is too long.
+    /// The place nearest to `start` where a popup of this length lies within the bounds. A popup
+    /// that is too long begins or ends with them.
     fn nearest(&self, start: i64, size: i32) -> i64
         requires { IsNear start }
         ensures exact { result ≡ nearest (first_within self.now) (end_within self.now) start size }
@@ -187,7 +191,7 @@ impl Bounds {
         }
     }
 
-    /// The part of such a popup that lies within the bounds, or all of it where none does.
+    /// The part of such a popup that lies within the bounds, or all of it if none does.
     fn part_within(&self, start: i64, size: i32) -> (i64, i32)
         requires { IsNear start }
         ensures { result ≡ part_within (first_within self.now) (end_within self.now) start size }
@@ -212,8 +216,12 @@ impl Bounds {
         }
     }
 
-    /// Where the popup begins on the axis, and how long it is (xdg-shell.xml, xdg_positioner.set_constraint_adjustment): each adjustment is made only
-    /// where it is allowed and the popup doesn't fit yet. It is flipped, if it fits then; it slides to the nearest place; it is cut to the bounds.
+    /// Where the popup begins on the axis, and how long it is (xdg-shell.xml,
+    /// xdg_positioner.set_constraint_adjustment). Each adjustment is made only if it is allowed and
+    /// the popup doesn't fit yet:
+    /// - it is flipped, if it fits then;
+    /// - it slides to the nearest place;
+    /// - it is cut to the bounds.
     pub(crate) fn place(&self, axis: &Axis, allowed: Allowed) -> (i64, i32)
         ensures { result ≡ placed_on allowed.flip allowed.slide allowed.resize (first_within self.now) (end_within self.now) (axis_of axis.now) }
     {

@@ -13,23 +13,24 @@ use wl_geom::Rect;
 /// What happens to a popup.
 #[derive(Clone, Copy)]
 pub(crate) enum PopupChange {
-    /// It is placed there, or nowhere.
+    /// It is placed at this place, or nowhere.
     Place(Option<Placed>),
-    /// The place that waited is where it stands now.
+    /// The place that waited comes into force.
     Arrive(Placed),
-    /// Its positioner is this from now on.
+    /// It gets a copy of this positioner.
     Copy(Positioner),
     /// It has a grab.
     Grab,
-    /// It isn't mapped any more: it has no grab, and no place waits.
+    /// It is unmapped: it has no grab, and no place waits.
     Unmap,
-    /// It is dismissed, and has no grab any more.
+    /// It is dismissed, and loses its grab.
     Dismiss,
-    /// The toplevel of the xdg_surface with this id goes; where that is its parent it has none any more.
+    /// The toplevel of the xdg_surface with this id goes. If that is its parent, it has none any
+    /// more.
     Orphan(u32),
 }
 
-/// A popup (xdg-shell.xml, xdg_popup). It is seen as the definition's.
+/// A popup (xdg-shell.xml, xdg_popup). Contracts see it as the definition's.
 #[derive(Drop)]
 pub struct Popup {
     parent: Option<u32>,
@@ -50,8 +51,8 @@ impl Model for Popup {
 }
 
 impl Popup {
-    /// A new one, which is placed nowhere yet: its parent's xdg_surface has this id, and this is its number in order of creation. The
-    /// positioner is copied.
+    /// A new popup, which is placed nowhere yet. `parent` is the id of its parent's xdg_surface,
+    /// `number` its number in order of creation. The positioner is copied.
     pub(crate) fn new(parent: u32, positioner: &Positioner, number: u64) -> Popup
         ensures { result ≡ first_popup parent positioner.now number }
     {
@@ -66,7 +67,7 @@ impl Popup {
         }
     }
 
-    /// The id of its parent's xdg_surface; none where that was a toplevel's that is gone.
+    /// The id of its parent's xdg_surface. `None` if the parent was a toplevel that is gone.
     pub fn parent(&self) -> Option<u32>
         ensures { result ≡ self.now.parent }
     {
@@ -80,8 +81,8 @@ impl Popup {
         self.placement
     }
 
-    /// Where it will stand by the next commit that doesn't unmap it: where it was placed by the latest configure that was acknowledged since
-    /// (xdg-shell.xml, xdg_popup.reposition). Nowhere where it was dismissed.
+    /// Where the next commit puts it, unless that unmaps it: the place of the latest configure
+    /// acknowledged since (xdg-shell.xml, xdg_popup.reposition). `None` for a dismissed popup.
     pub fn waiting(&self) -> Option<Placed>
         ensures { result ≡ waiting_of self.now }
     {
@@ -91,14 +92,14 @@ impl Popup {
         self.waiting
     }
 
-    /// It was dismissed (xdg-shell.xml, xdg_popup.popup_done).
+    /// Whether it was dismissed (xdg-shell.xml, xdg_popup.popup_done).
     pub fn is_dismissed(&self) -> bool
         ensures { result ≡ self.now.is_dismissed }
     {
         self.is_dismissed
     }
 
-    /// It has a grab (xdg-shell.xml, xdg_popup.grab).
+    /// Whether it has a grab (xdg-shell.xml, xdg_popup.grab).
     pub fn has_grab(&self) -> bool
         ensures { result ≡ self.now.has_grab }
     {
@@ -112,8 +113,8 @@ impl Popup {
         self.number
     }
 
-    /// Where it is placed now, within the bounds, given in pixels of the output, its parent's window geometry standing at `parent_at` there.
-    /// Nowhere by a positioner that isn't complete.
+    /// Where it is placed now. The bounds are in pixels of the output, as is `parent_at`, where its
+    /// parent's window geometry stands. `None` if its positioner isn't complete.
     pub(crate) fn place(&self, bounds: Rect, parent_at: (i32, i32)) -> Option<Placed>
         ensures { result ≡ place self.now.positioner bounds parent_at }
     {
@@ -123,7 +124,8 @@ impl Popup {
         Some(self.positioner.place(bounds, parent_at))
     }
 
-    /// These configures were acknowledged, the earliest first: the latest place that one of them gives it waits for the next commit.
+    /// Notes that these configures were acknowledged, the earliest first. The latest place that one
+    /// of them gives it waits for the next commit.
     pub(crate) fn acknowledge(&mut self, configures: &[Configure])
         ensures { self.new ≡ record self.old { waiting = latest_placement self.old.waiting configures.now } }
     {
@@ -133,7 +135,7 @@ impl Popup {
         );
     }
 
-    /// This happens to it.
+    /// Makes this change to it.
     pub(crate) fn change(&mut self, change: &PopupChange)
         ensures { self.new ≡ popup_by change.now self.old }
     {

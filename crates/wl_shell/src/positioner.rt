@@ -11,7 +11,8 @@ use std::marker::Model;
 use wl_geom::Rect;
 use wl_surface::held;
 
-/// How a popup that passes the bounds may be adjusted (xdg-shell.xml, xdg_positioner.constraint_adjustment).
+/// How a popup that passes the bounds may be adjusted (xdg-shell.xml,
+/// xdg_positioner.constraint_adjustment).
 const SLIDE_X: u32 = 1;
 
 const SLIDE_Y: u32 = 2;
@@ -24,8 +25,9 @@ const RESIZE_X: u32 = 16;
 
 const RESIZE_Y: u32 = 32;
 
-/// Where a popup is to be placed beside its parent (xdg-shell.xml, xdg_positioner): how large it is, at which rectangle it is anchored, and how
-/// it lies there. All is in pixels; places are relative to the corner of the parent's window geometry.
+/// Where a popup is to be placed beside its parent (xdg-shell.xml, xdg_positioner): how large it
+/// is, at which rectangle it is anchored, and how it lies there. All is in pixels. Places are
+/// relative to the corner of the parent's window geometry.
 #[derive(Clone, Copy)]
 pub struct Positioner {
     size: Option<(i32, i32)>,
@@ -66,7 +68,8 @@ fn rect_set(rect: Rect) -> Option<Rect>
 }
 
 impl Positioner {
-    /// One for which nothing was set: no size, no anchor rectangle, anchor and gravity none, no adjustment and no offset.
+    /// One without any setting: no size, no anchor rectangle, anchor and gravity none, no
+    /// adjustment and no offset.
     pub fn new() -> Positioner
         ensures { result ≡ first_positioner }
     {
@@ -84,7 +87,7 @@ impl Positioner {
     ///
     /// # Errors
     ///
-    /// `InvalidInput` exactly where it isn't allowed; then nothing changes.
+    /// `InvalidInput` exactly if it isn't allowed; then nothing changes.
     pub fn set(&mut self, setting: &Setting) -> Result<(), ShellError>
         ensures answer { result ≡ set_answer (is_allowed setting.now) }
         ensures ok { OnOk result (self.new ≡ with_setting setting.now self.old) }
@@ -112,11 +115,12 @@ impl Positioner {
         }
     }
 
-    /// xdg_positioner.set_size: how wide and how high the popup's window geometry is to be.
+    /// xdg_positioner.set_size: how wide and how high the popup's window geometry is to be, in
+    /// pixels.
     ///
     /// # Errors
     ///
-    /// `InvalidInput` exactly where a side isn't positive; then nothing changes.
+    /// `InvalidInput` exactly if a side isn't positive; then nothing changes.
     pub fn set_size(&mut self, w: i32, h: i32) -> Result<(), ShellError>
         ensures answer { result ≡ set_answer (is_size w h) }
         ensures ok { OnOk result (self.new ≡ record self.old { size = Some (w, h) }) }
@@ -125,11 +129,12 @@ impl Positioner {
         self.set(&Setting::Size(w, h))
     }
 
-    /// xdg_positioner.set_anchor_rect: at which rectangle of its parent the popup is anchored. One of 0 by 0 counts as none.
+    /// xdg_positioner.set_anchor_rect: at which rectangle of its parent the popup is anchored. One
+    /// of 0 by 0 counts as none.
     ///
     /// # Errors
     ///
-    /// `InvalidInput` exactly where a side is negative; then nothing changes.
+    /// `InvalidInput` exactly if a side is negative; then nothing changes.
     pub fn set_anchor_rect(&mut self, rect: Rect) -> Result<(), ShellError>
         ensures answer { result ≡ set_answer (is_anchor_rect rect) }
         ensures ok { OnOk result (self.new ≡ record self.old { anchor_rect = rect_set rect }) }
@@ -142,7 +147,7 @@ impl Positioner {
     ///
     /// # Errors
     ///
-    /// `InvalidInput` exactly where the number is above 8; then nothing changes.
+    /// `InvalidInput` exactly if the number is above 8; then nothing changes.
     pub fn set_anchor(&mut self, anchor: u32) -> Result<(), ShellError>
         ensures answer { result ≡ set_answer (nat_le anchor 8) }
         ensures ok { OnOk result (self.new ≡ record self.old { anchor = anchor }) }
@@ -151,11 +156,11 @@ impl Positioner {
         self.set(&Setting::Anchor(anchor))
     }
 
-    /// xdg_positioner.set_gravity: to which side of that the popup lies.
+    /// xdg_positioner.set_gravity: to which side of the anchor the popup lies.
     ///
     /// # Errors
     ///
-    /// `InvalidInput` exactly where the number is above 8; then nothing changes.
+    /// `InvalidInput` exactly if the number is above 8; then nothing changes.
     pub fn set_gravity(&mut self, gravity: u32) -> Result<(), ShellError>
         ensures answer { result ≡ set_answer (nat_le gravity 8) }
         ensures ok { OnOk result (self.new ≡ record self.old { gravity = gravity }) }
@@ -164,37 +169,39 @@ impl Positioner {
         self.set(&Setting::Gravity(gravity))
     }
 
-    /// xdg_positioner.set_constraint_adjustment: how the popup may be adjusted where it passes the bounds. Bits without a meaning do nothing.
+    /// xdg_positioner.set_constraint_adjustment: how the popup may be adjusted if it passes the
+    /// bounds. Bits without a meaning do nothing.
     pub fn set_adjustment(&mut self, adjustment: u32)
         ensures { self.new ≡ record self.old { adjustment = adjustment } }
     {
         self.apply(&Setting::Adjustment(adjustment));
     }
 
-    /// xdg_positioner.set_offset: how far to the right and down the popup is moved.
+    /// xdg_positioner.set_offset: how many pixels to the right and down the popup is moved.
     pub fn set_offset(&mut self, x: i32, y: i32)
         ensures { self.new ≡ record self.old { offset = (x, y) } }
     {
         self.apply(&Setting::Offset(x, y));
     }
 
-    /// xdg_positioner.set_reactive: the popup may be placed anew where what it hangs on changes. Popups are placed when they are asked to be, and
-    /// never by themselves: nothing changes.
+    /// xdg_positioner.set_reactive: the popup may be placed anew when its surroundings change.
+    /// Popups here are placed only when asked, so nothing changes.
     pub fn set_reactive(&mut self)
         ensures { self.new ≡ self.old }
     {
         self.apply(&Setting::Reactive);
     }
 
-    /// xdg_positioner.set_parent_size: how wide and how high the parent's window geometry will be. Popups are placed by where it stands: nothing
-    /// changes, whatever the numbers.
+    /// xdg_positioner.set_parent_size: how wide and how high the parent's window geometry will be.
+    /// Popups here are placed by where it stands now, so nothing changes, whatever the numbers.
     pub fn set_parent_size(&mut self, w: i32, h: i32)
         ensures { self.new ≡ self.old }
     {
         self.apply(&Setting::ParentSize(w, h));
     }
 
-    /// xdg_positioner.set_parent_configure: the serial of the configure that the parent answers then. Nothing changes, whatever the number.
+    /// xdg_positioner.set_parent_configure: the serial of the configure that the parent answers
+    /// then. Nothing changes, whatever the number.
     pub fn set_parent_configure(&mut self, serial: u32)
         ensures { self.new ≡ self.old }
     {
@@ -208,8 +215,10 @@ impl Positioner {
         self.size.is_some() && self.anchor_rect.is_some()
     }
 
-    /// Where a popup is placed by it, relative to the corner of its parent's window geometry, which stands at `parent_at` in the output. It should
-    /// lie within the bounds (xdg-shell.xml, xdg_positioner.set_constraint_adjustment). A corner is held within -16,777,216 to 16,777,216.
+    /// Where it places a popup, relative to the corner of its parent's window geometry. That corner
+    /// stands at `parent_at` in the output. The popup should lie within the bounds, in pixels of
+    /// the output (xdg-shell.xml, xdg_positioner.set_constraint_adjustment). A corner is held
+    /// within -16,777,216 to 16,777,216.
     pub fn place(&self, bounds: Rect, parent_at: (i32, i32)) -> Placed
         requires { IsTrue (is_complete self.now) }
         ensures { Some result ≡ place self.now bounds parent_at }

@@ -17,7 +17,7 @@ pub(crate) enum Kind {
     Popup(Popup),
 }
 
-/// The role object of an xdg_surface. It is seen as the definition's.
+/// The role object of an xdg_surface. Contracts see it as the definition's.
 #[derive(Drop)]
 pub(crate) struct RoleObject {
     id: u32,
@@ -69,7 +69,7 @@ impl RoleObject {
         self.stage
     }
 
-    /// The popup that it is.
+    /// Its popup, if it is one.
     pub(crate) fn popup(&self) -> Option<&Popup>
         ensures { option_copied result ≡ kind_popup self.now.kind }
     {
@@ -79,7 +79,7 @@ impl RoleObject {
         }
     }
 
-    /// The toplevel that it is.
+    /// Its toplevel, if it is one.
     pub(crate) fn as_toplevel(&self) -> Option<Toplevel>
         ensures { result ≡ kind_toplevel self.now self.now.kind }
     {
@@ -92,7 +92,7 @@ impl RoleObject {
         }
     }
 
-    /// These configures were acknowledged, the earliest first.
+    /// Notes that these configures were acknowledged, the earliest first.
     pub(crate) fn acknowledge(&mut self, configures: &[Configure])
         ensures { self.new ≡ role_acknowledged configures.now self.old }
     {
@@ -102,14 +102,14 @@ impl RoleObject {
         }
     }
 
-    /// It is in this stage.
+    /// Puts it into this stage.
     pub(crate) fn set_stage(&mut self, stage: Stage)
         ensures { self.new ≡ at_stage stage self.old }
     {
         self.stage = stage;
     }
 
-    /// This happens to it where it is a popup.
+    /// Makes this change to it, if it is a popup.
     pub(crate) fn change(&mut self, change: &PopupChange)
         ensures { self.new ≡ with_popup_role (popup_by change.now) self.old }
     {

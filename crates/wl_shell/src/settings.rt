@@ -8,8 +8,8 @@ use wl_geom::Rect;
 /// The greatest number of an anchor and of gravity: bottom_right.
 const LAST_EDGE: u32 = 8;
 
-/// What one request sets of an xdg_positioner (xdg-shell.xml, xdg_positioner). Lengths and places are in pixels; places are relative to the
-/// corner of the parent's window geometry.
+/// What one request sets of an xdg_positioner (xdg-shell.xml, xdg_positioner). Lengths and places
+/// are in pixels. Places are relative to the corner of the parent's window geometry.
 #[derive(Clone, Copy)]
 pub enum Setting {
     /// set_size: how wide and how high the popup's window geometry is to be.
@@ -18,13 +18,13 @@ pub enum Setting {
     AnchorRect(Rect),
     /// set_anchor: at which edges or corner of the rectangle, by its number.
     Anchor(u32),
-    /// set_gravity: to which side of that the popup lies, by its number.
+    /// set_gravity: to which side of the anchor the popup lies, by its number.
     Gravity(u32),
-    /// set_constraint_adjustment: how the popup may be adjusted where it passes the bounds, by bits.
+    /// set_constraint_adjustment: how the popup may be adjusted if it passes the bounds, by bits.
     Adjustment(u32),
     /// set_offset: how far to the right and down the popup is moved.
     Offset(i32, i32),
-    /// set_reactive: the popup may be placed anew where what it hangs on changes.
+    /// set_reactive: the popup may be placed anew when its surroundings change.
     Reactive,
     /// set_parent_size: how wide and how high the parent's window geometry will be.
     ParentSize(i32, i32),
@@ -33,8 +33,8 @@ pub enum Setting {
 }
 
 impl Setting {
-    /// Whether it may be set: both sides of a size are positive, none of an anchor rectangle is negative, and an anchor and gravity are at most 8.
-    /// The others are refused with invalid_input.
+    /// Whether it may be set: both sides of a size are positive, no side of an anchor rectangle is
+    /// negative, and an anchor or gravity is at most 8. Others are refused with invalid_input.
     pub fn is_allowed(&self) -> bool
         ensures { result ≡ is_allowed self.now }
     {

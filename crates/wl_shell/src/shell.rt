@@ -20,7 +20,7 @@ use std::marker::Model;
 use wl_geom::Rect;
 use wl_surface::SurfaceNo;
 
-/// The number of a popup: that of its surface, since a surface has one popup at most.
+/// A popup's number: that of its surface, since a surface has at most one popup.
 pub type PopupNo = SurfaceNo;
 
 /// A popup that is asked for.
@@ -34,7 +34,8 @@ pub struct NewPopup {
     pub number: u64,
 }
 
-/// The xdg_surfaces of a client, by the numbers of their surfaces (xdg-shell.xml). It is seen as what is kept of each.
+/// The xdg_surfaces of a client, by the numbers of their surfaces (xdg-shell.xml). Contracts see
+/// what it keeps of each.
 #[derive(Drop)]
 pub struct Shell<A: Allocator> {
     surfaces: BTreeMap<SurfaceNo, XdgSurface, A>,
@@ -65,13 +66,15 @@ impl<A: Allocator> Shell<A> {
         self.surfaces.get(&surface)
     }
 
-    /// xdg_surface.get_toplevel: the xdg_surface of the surface has a toplevel as its role object, which is new. What was asked of it
-    /// before is forgotten.
+    /// xdg_surface.get_toplevel: the surface's xdg_surface gets a new toplevel as its role object,
+    /// and forgets what was asked of it before.
     ///
     /// # Errors
     ///
-    /// The first of these; each changes nothing. `NotConstructed` where the surface has no xdg_surface, `AlreadyConstructed` where it has a
-    /// role object, `Role` where the surface has another role.
+    /// The first of these; each changes nothing:
+    /// - `NotConstructed`, if the surface has no xdg_surface;
+    /// - `AlreadyConstructed`, if that has a role object;
+    /// - `Role`, if the surface has another role.
     pub fn get_toplevel(
         &mut self,
         surface: SurfaceNo,
@@ -88,7 +91,7 @@ impl<A: Allocator> Shell<A> {
         xdg_surface.get_toplevel(id, has_other_role)
     }
 
-    /// The id of the xdg_surface of a popup's parent, if that has one with a role object.
+    /// The id of the xdg_surface of a popup's parent, if that has a role object.
     fn parent_id(&self, parent: Option<SurfaceNo>) -> Option<u32>
         ensures { result ≡ parent_id (kept_of self.now) parent }
     {
@@ -100,14 +103,17 @@ impl<A: Allocator> Shell<A> {
         }
     }
 
-    /// xdg_surface.get_popup: the xdg_surface of the surface has a popup as its role object, which is new; the positioner is copied. What was
-    /// asked of it before is forgotten.
+    /// xdg_surface.get_popup: the surface's xdg_surface gets a new popup as its role object, and
+    /// forgets what was asked of it before. The positioner is copied.
     ///
     /// # Errors
     ///
-    /// The first of these; each changes nothing. `NotConstructed` where the surface has no xdg_surface, `AlreadyConstructed` where it has a
-    /// role object, `Role` where the surface has another role, `InvalidPopupParent` where there is no parent, or its surface has no role
-    /// object, `InvalidPositioner` where the positioner isn't complete.
+    /// The first of these; each changes nothing:
+    /// - `NotConstructed`, if the surface has no xdg_surface;
+    /// - `AlreadyConstructed`, if that has a role object;
+    /// - `Role`, if the surface has another role;
+    /// - `InvalidPopupParent`, if there is no parent, or its surface has no role object;
+    /// - `InvalidPositioner`, if the positioner isn't complete.
     pub fn get_popup(
         &mut self,
         surface: SurfaceNo,
@@ -127,12 +133,13 @@ impl<A: Allocator> Shell<A> {
         xdg_surface.get_popup(popup.id, parent, positioner, popup.number, has_other_role)
     }
 
-    /// xdg_surface.set_window_geometry: the window geometry of the xdg_surface of the surface is this, from the next commit on.
+    /// xdg_surface.set_window_geometry: this is the window geometry from the next commit on, in
+    /// pixels from the corner of the surface.
     ///
     /// # Errors
     ///
-    /// The first of these; each changes nothing. `NotConstructed` where the surface has no xdg_surface or that has no role object,
-    /// `InvalidSize` where a side isn't positive.
+    /// The first of these; each changes nothing. `NotConstructed` if the surface has no
+    /// xdg_surface, or that has no role object; `InvalidSize` if a side isn't positive.
     pub fn geometry(&mut self, surface: SurfaceNo, rect: Rect) -> Result<(), ShellError>
         ensures answer { result ≡ geometry_answer rect (kept_of self.old surface) }
         ensures ok { OnOk result (kept_of self.new ≡ changing surface (kept_asking rect) (kept_of self.old)) }
@@ -144,13 +151,15 @@ impl<A: Allocator> Shell<A> {
         xdg_surface.ask_geometry(rect)
     }
 
-    /// xdg_surface.ack_configure: the last configure of this serial and those before it don't wait any more. Where one of them places a popup
-    /// anew, the latest such place waits for the next commit.
+    /// xdg_surface.ack_configure: the last configure of this serial, and those before it, don't
+    /// wait any more. The latest of them that places a popup anew makes its place wait for the next
+    /// commit.
     ///
     /// # Errors
     ///
-    /// The first of these; each changes nothing. `NotConstructed` where the surface has no xdg_surface or that has no role object,
-    /// `InvalidSerial` where no configure of this serial waits.
+    /// The first of these; each changes nothing. `NotConstructed` if the surface has no
+    /// xdg_surface, or that has no role object; `InvalidSerial` if no configure of this serial
+    /// waits.
     pub fn ack(&mut self, surface: SurfaceNo, serial: u32) -> Result<(), ShellError>
         ensures answer { result ≡ acknowledgement_answer serial (kept_of self.old surface) }
         ensures ok { OnOk result (kept_of self.new ≡ changing surface (kept_acknowledging serial) (kept_of self.old)) }
@@ -162,17 +171,23 @@ impl<A: Allocator> Shell<A> {
         xdg_surface.acknowledge(serial)
     }
 
-    /// The surface is committed, and its state then has a buffer, or none (wayland.xml, wl_surface.commit; xdg-shell.xml, xdg_surface). The
-    /// window geometry that was asked counts from then on. Where a configure is to be sent it has this serial, which waits to be acknowledged.
-    /// A popup is placed then, within the bounds, given in pixels of the output, its parent's window geometry standing at `parent_at`; neither
-    /// is of use to a toplevel. One that was placed anew stands there from the first commit on after that was acknowledged, unless the commit unmaps
-    /// it; `Place` says so where the commit doesn't map it. Of a dismissed popup nothing else changes. It takes no memory. Of a surface without an
-    /// xdg_surface nothing changes, and `Nothing` is answered.
+    /// wl_surface.commit (wayland.xml; xdg-shell.xml, xdg_surface), after which the surface has a
+    /// buffer or not. The window geometry that was asked counts from now on. A configure to be sent
+    /// has this serial, and waits to be acknowledged. It takes no memory.
+    ///
+    /// `Configure` also places a popup, within the bounds. They are in pixels of the output, as is
+    /// `parent_at`, where the parent's window geometry stands. A toplevel needs neither.
+    ///
+    /// A popup placed anew moves at the first commit after its client acknowledged that, unless the
+    /// commit unmaps it. `Place` says so, or `Map` if the commit maps it.
+    ///
+    /// Nothing else changes of a dismissed popup. If the surface has no xdg_surface, nothing
+    /// changes and the answer is `Nothing`.
     ///
     /// # Errors
     ///
-    /// Each changes nothing. `UnconfiguredBuffer` where the state has a buffer and no configure was acknowledged, `TooMany` where a
-    /// configure would be sent and 64 of them wait.
+    /// Each changes nothing. `UnconfiguredBuffer` if the surface has a buffer and no configure was
+    /// acknowledged; `TooMany` if a configure would be sent and 64 of them wait.
     pub fn on_commit(
         &mut self,
         surface: SurfaceNo,
@@ -191,12 +206,13 @@ impl<A: Allocator> Shell<A> {
         xdg_surface.commit(has_buffer, bounds, parent_at, serial)
     }
 
-    /// A request for another state of the toplevel, as xdg_toplevel.set_maximized. True where a configure is to be sent: it has this serial,
-    /// which waits to be acknowledged. False, and nothing changes, where the surface has no toplevel or none was configured before.
+    /// A request for another state of the toplevel, as xdg_toplevel.set_maximized. The answer is
+    /// true if a configure is to be sent: it has this serial, and waits to be acknowledged. Else
+    /// nothing changes, since the surface has no toplevel, or none was configured before.
     ///
     /// # Errors
     ///
-    /// `TooMany` where a configure would be sent and 64 of them wait; nothing changes.
+    /// `TooMany` if a configure would be sent and 64 of them wait; nothing changes.
     pub fn configure(&mut self, surface: SurfaceNo, serial: u32) -> Result<bool, ShellError>
         ensures answer { result ≡ configure_answer (kept_of self.old surface) }
         ensures ok { IfOk result (λ is_sent. kept_of self.new ≡ changing surface (kept_configured is_sent serial) (kept_of self.old)) }
@@ -208,7 +224,7 @@ impl<A: Allocator> Shell<A> {
         xdg_surface.configure(serial)
     }
 
-    /// The parent of the popup of the surface is a toplevel, or a popup with a grab.
+    /// Whether the parent of the surface's popup is a toplevel, or a popup with a grab.
     fn parent_allows(&self, surface: SurfaceNo) -> bool
         ensures { result ≡ parent_allows self.now (kept_of self.now surface) }
     {
@@ -218,7 +234,7 @@ impl<A: Allocator> Shell<A> {
         }
     }
 
-    /// Its popup may have a grab by its parent too.
+    /// Whether its popup may have a grab: the parent allows it too.
     fn may_grab(&self, surface: SurfaceNo, is_allowed: bool) -> bool
         ensures { result ≡ (parent_allows self.now (kept_of self.now surface) && is_allowed) }
     {
@@ -232,13 +248,15 @@ impl<A: Allocator> Shell<A> {
         popups::parent(self.get(surface)?)
     }
 
-    /// xdg_popup.grab: the popup has a grab, where that is allowed by the serial and the other clients, and its parent is a toplevel or a popup
-    /// with a grab. True where that is so, and where nothing is done, since the popup was dismissed or there is none; false, and nothing changes,
-    /// where the popup is to be dismissed.
+    /// xdg_popup.grab: the popup gets a grab if its parent is a toplevel or a popup with a grab,
+    /// and `is_allowed`. That says whether the serial and the other clients allow it.
+    ///
+    /// The answer is false, and nothing changes, if the popup is to be dismissed. It is true if the
+    /// popup has the grab, or if nothing is to be done, since it was dismissed or isn't there.
     ///
     /// # Errors
     ///
-    /// `InvalidGrab` where the popup is mapped; nothing changes.
+    /// `InvalidGrab` if the popup is mapped; nothing changes.
     pub fn grab(&mut self, popup: PopupNo, is_allowed: bool) -> Result<bool, ShellError>
         ensures answer { result ≡ grab_answer (parent_allows self.old (kept_of self.old popup) && is_allowed) (kept_of self.old popup) }
         ensures ok { IfOk result (λ is_taken. kept_of self.new ≡ changing popup (kept_grabbing is_taken) (kept_of self.old)) }
@@ -251,15 +269,19 @@ impl<A: Allocator> Shell<A> {
         xdg_surface.grab(is_allowed)
     }
 
-    /// xdg_popup.reposition: the popup has a copy of this positioner in place of the one before. Where it was configured before, and
-    /// isn't dismissed, it is placed anew, within the bounds, given in pixels of the output, its parent's window geometry standing at `parent_at`: that
-    /// place is answered, and is to be sent with a configure of this serial, which waits to be acknowledged; the popup stands where it stood. Elsewhere
-    /// nothing is to be sent, and no serial is drawn. Where there is no such popup nothing changes. It takes no memory.
+    /// xdg_popup.reposition: the popup gets a copy of this positioner in place of the one before.
+    /// One that was configured and isn't dismissed is placed anew, within the bounds. They are in
+    /// pixels of the output, as is `parent_at`, where the parent's window geometry stands. It takes
+    /// no memory.
+    ///
+    /// The answer is the new place, to be sent with a configure of this serial, which waits to be
+    /// acknowledged. The popup stays where it is until a commit after that. The answer is `None` if
+    /// nothing is to be sent: then no serial is drawn. Without such a popup nothing changes.
     ///
     /// # Errors
     ///
-    /// The first of these; each changes nothing. `TooMany` where a configure would be sent and 64 of them wait, `InvalidPositioner` where the
-    /// positioner isn't complete.
+    /// The first of these; each changes nothing. `TooMany` if a configure would be sent and 64 of
+    /// them wait; `InvalidPositioner` if the positioner isn't complete.
     pub fn reposition(
         &mut self,
         popup: PopupNo,
@@ -278,28 +300,30 @@ impl<A: Allocator> Shell<A> {
         xdg_surface.reposition(positioner, bounds, parent_at, serial)
     }
 
-    /// The surface of the xdg_surface of this id; none where there is none.
+    /// The surface of the xdg_surface of this id, if there is one.
     pub fn surface_at(&self, id: u32) -> Option<SurfaceNo>
         ensures { IsSurfaceAt id (kept_of self.now) result }
     {
         popups::find_surface(&self.surfaces, id)
     }
 
-    /// The oldest popup, of those that are dismissed and of those that aren't; none where there is none.
+    /// The oldest popup, dismissed or not, if there is one.
     pub fn first_popup(&self) -> Option<PopupNo>
         ensures { IsOldest (has_popup (λ popup. true)) (kept_of self.now) result }
     {
         popups::find_popup(&self.surfaces, Wanted::First)
     }
 
-    /// The oldest popup with a greater number in order of creation, of those that aren't dismissed and of those that are; none where there is none.
+    /// The oldest popup, dismissed or not, with a greater number in order of creation, if there is
+    /// one.
     pub fn popup_after(&self, number: u64) -> Option<PopupNo>
         ensures { IsOldest (has_popup (λ popup. nat_lt number popup.number)) (kept_of self.now) result }
     {
         popups::find_popup(&self.surfaces, Wanted::After(number))
     }
 
-    /// The surface of the newest popup that isn't dismissed, of the popup of the xdg_surface of the surface and those that descend from it.
+    /// The surface of the newest popup that isn't dismissed: the one of the surface's xdg_surface,
+    /// or one that descends from that.
     fn newest_under(&self, surface: SurfaceNo) -> Option<SurfaceNo>
         ensures { IsNewest (dismissible_under self.now (kept_of self.now surface)) (kept_of self.now) result }
     {
@@ -307,9 +331,10 @@ impl<A: Allocator> Shell<A> {
         popups::find_popup(&self.surfaces, Wanted::Under(id))
     }
 
-    /// The popup of the xdg_surface of the surface is dismissed, if it has one, with those that descend from it, the newest first, one by each
-    /// call (xdg-shell.xml, xdg_popup.popup_done). Answers the one that was, and nothing, with nothing changed, where all are. A dismissed popup
-    /// has no grab.
+    /// Dismisses the popup of the surface's xdg_surface, if it has one, and all popups that descend
+    /// from that xdg_surface. The newest goes first, one by each call (xdg-shell.xml,
+    /// xdg_popup.popup_done). The answer is the one that was dismissed, or `None` if none was left;
+    /// then nothing changes. A dismissed popup has no grab.
     pub fn dismiss(&mut self, surface: SurfaceNo) -> Option<PopupNo>
         ensures newest { IsNewest (dismissible_under self.old (kept_of self.old surface)) (kept_of self.old) result }
         ensures some { IfSome result (λ gone. kept_of self.new ≡ changing gone (kept_changed dismiss) (kept_of self.old)) }
@@ -320,16 +345,17 @@ impl<A: Allocator> Shell<A> {
         Some(newest)
     }
 
-    /// The surface of the newest popup that isn't dismissed, of those with a grab and those that descend from one.
+    /// The surface of the newest popup that isn't dismissed, among those with a grab and their
+    /// descendants.
     fn newest_grabbing(&self) -> Option<SurfaceNo>
         ensures { IsNewest (dismissible_grabbing self.now) (kept_of self.now) result }
     {
         popups::find_popup(&self.surfaces, Wanted::Grabbing)
     }
 
-    /// The popups with a grab are dismissed, with those that descend from them, the newest first, one by each call (xdg-shell.xml,
-    /// xdg_popup.grab and xdg_popup.popup_done). Answers the one that was, and nothing, with nothing changed, where all are. A dismissed popup has
-    /// no grab.
+    /// Dismisses the popups with a grab and their descendants: the newest first, one by each call
+    /// (xdg-shell.xml, xdg_popup.grab and xdg_popup.popup_done). The answer is the one that was
+    /// dismissed, or `None` if none was left; then nothing changes. A dismissed popup has no grab.
     pub fn dismiss_grabbing(&mut self) -> Option<PopupNo>
         ensures newest { IsNewest (dismissible_grabbing self.old) (kept_of self.old) result }
         ensures some { IfSome result (λ gone. kept_of self.new ≡ changing gone (kept_changed dismiss) (kept_of self.old)) }
@@ -340,14 +366,14 @@ impl<A: Allocator> Shell<A> {
         Some(newest)
     }
 
-    /// A popup has a grab (xdg-shell.xml, xdg_popup.grab).
+    /// Whether a popup has a grab (xdg-shell.xml, xdg_popup.grab).
     pub fn has_grab(&self) -> bool
         ensures { result ≡ list_any (λ e. is_grabbing e.1) self.now }
     {
         popups::has_grab(&self.surfaces)
     }
 
-    /// The popup of the surface is dismissed, and no other.
+    /// Dismisses the popup of the surface, and no other.
     fn dismiss_one(&mut self, surface: SurfaceNo)
         ensures { kept_of self.new ≡ changing surface (kept_changed dismiss) (kept_of self.old) }
     {
@@ -357,7 +383,7 @@ impl<A: Allocator> Shell<A> {
         xdg_surface.dismiss();
     }
 
-    /// A living popup has the xdg_surface of the surface as its parent.
+    /// Whether a living popup has the surface's xdg_surface as its parent.
     pub fn has_child(&self, surface: SurfaceNo) -> bool
         ensures { result ≡ has_child self.now (kept_of self.now surface) }
     {
@@ -367,11 +393,12 @@ impl<A: Allocator> Shell<A> {
         }
     }
 
-    /// xdg_popup.destroy: the xdg_surface of the surface has no role object any more, and none of its configures waits.
+    /// xdg_popup.destroy: the surface's xdg_surface has no role object any more, and none of its
+    /// configures waits.
     ///
     /// # Errors
     ///
-    /// `NotTheTopmostPopup` where a living popup has it as its parent; nothing changes.
+    /// `NotTheTopmostPopup` if a living popup has it as its parent; nothing changes.
     pub fn destroy_popup(&mut self, popup: PopupNo) -> Result<(), ShellError>
         ensures answer { result ≡ popup_destruction (has_child self.old (kept_of self.old popup)) }
         ensures ok { OnOk result (kept_of self.new ≡ changing popup kept_without_role (kept_of self.old)) }
@@ -384,7 +411,7 @@ impl<A: Allocator> Shell<A> {
         Ok(())
     }
 
-    /// The toplevel of the surface goes: the popups whose parent it is have no parent any more, whether they were dismissed or not.
+    /// The toplevel of the surface goes: its popups, dismissed or not, have no parent any more.
     pub fn orphan(&mut self, surface: SurfaceNo)
         ensures { kept_of self.new ≡ orphaned (kept_of self.old surface) (kept_of self.old) }
     {
@@ -402,7 +429,8 @@ impl<A: Allocator> Shell<A> {
         popups::are_found(&self.surfaces);
     }
 
-    /// xdg_toplevel.destroy: the xdg_surface of the surface has no role object any more, and none of its configures waits.
+    /// xdg_toplevel.destroy: the surface's xdg_surface has no role object any more, and none of its
+    /// configures waits.
     pub fn destroy_toplevel(&mut self, surface: SurfaceNo)
         ensures { kept_of self.new ≡ changing surface kept_without_role (kept_of self.old) }
     {
@@ -416,7 +444,7 @@ impl<A: Allocator> Shell<A> {
     ///
     /// # Errors
     ///
-    /// `DefunctRoleObject` where it has a role object; nothing changes.
+    /// `DefunctRoleObject` if that has a role object; nothing changes.
     pub fn destroy_xdg_surface(&mut self, surface: SurfaceNo) -> Result<(), ShellError>
         ensures answer { result ≡ destruction_answer (kept_of self.old surface) }
         ensures ok { OnOk result (kept_of self.new ≡ with_kept surface None (kept_of self.old)) }
@@ -433,7 +461,7 @@ impl<A: Allocator> Shell<A> {
     ///
     /// # Errors
     ///
-    /// `DefunctSurfaces` where there is an xdg_surface that it made.
+    /// `DefunctSurfaces` if there is an xdg_surface that it made.
     pub fn check_base(&self, base: u32) -> Result<(), ShellError>
         ensures err { IfErr result (λ e. (e ≡ ShellError.DefunctSurfaces) × ((surface : ℕ) × IsSomeAnd (kept_of self.now surface) (λ k. k.base ≡ base))) }
         ensures ok { OnOk result ((surface : ℕ) → IfSome (kept_of self.now surface) (λ k. k.base ≢ base)) }
@@ -445,7 +473,7 @@ impl<A: Allocator> Shell<A> {
     }
 }
 
-/// There is an xdg_surface that this xdg_wm_base made.
+/// Whether there is an xdg_surface that this xdg_wm_base made.
 fn has_base<A: Allocator>(surfaces: &BTreeMap<SurfaceNo, XdgSurface, A>, base: u32) -> bool
     ensures is { result ≡ list_any (is_of_base base) surfaces.now.entries }
     ensures found { All (λ e. kept_of surfaces.now.entries e.0 ≡ Some e.1) surfaces.now.entries }
@@ -456,12 +484,14 @@ fn has_base<A: Allocator>(surfaces: &BTreeMap<SurfaceNo, XdgSurface, A>, base: u
 }
 
 impl<A: Allocator + Copy> Shell<A> {
-    /// xdg_wm_base.get_xdg_surface: the surface has an xdg_surface, which is new and has no role object.
+    /// xdg_wm_base.get_xdg_surface: the surface gets a new xdg_surface, without a role object.
     ///
     /// # Errors
     ///
-    /// The first of these; each changes nothing. `Role` where the surface has a role that isn't the shell's or has an xdg_surface,
-    /// `InvalidSurfaceState` where it has a buffer, `Memory` where there is no memory for it.
+    /// The first of these; each changes nothing:
+    /// - `Role`, if the surface has a role that isn't the shell's, or has an xdg_surface;
+    /// - `InvalidSurfaceState`, if it has a buffer;
+    /// - `Memory`, if there is no memory for it.
     pub fn get_xdg_surface(
         &mut self,
         surface: SurfaceNo,

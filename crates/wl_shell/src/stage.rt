@@ -3,14 +3,15 @@
 ghost use Rattle.std.specs.Prelude.{◌≡◌};
 ghost use Rattle.wl_shell.specs.Shell.{acknowledged, answers_states};
 
-/// How far a role object is (xdg-shell.xml, xdg_surface: the initial commit, ack_configure, and mapping).
+/// How far a role object is (xdg-shell.xml, xdg_surface: the initial commit, ack_configure, and
+/// mapping).
 #[derive(Clone, Copy, Debug, PartialEq, Eq)]
 pub enum Stage {
-    /// Nothing was configured since it was made, or since its surface was unmapped.
+    /// It wasn't configured since it was made, or since its surface was unmapped.
     Fresh,
-    /// A configure is to be acknowledged.
+    /// No configure was acknowledged yet; one waits.
     Waiting,
-    /// A configure was acknowledged.
+    /// A configure was acknowledged, and its surface isn't mapped yet.
     Ready,
     /// Its surface is mapped.
     Mapped,
@@ -27,7 +28,7 @@ impl Stage {
         }
     }
 
-    /// A request for another state is answered by a configure, since there was one before.
+    /// Whether a request for another state is answered by a configure: there was one before.
     pub(crate) fn answers_states(self) -> bool
         ensures { result ≡ answers_states self }
     {

@@ -1,4 +1,4 @@
-//! One xdg_surface.
+//! One xdg_surface: what toplevels and popups have in common, as configures and window geometry.
 
 ghost use Rattle.std.specs.Prelude.{◌≡◌, ◌≢◌, ◌<◌, ◌↔◌, ℕ, false, Option, Some, OnOk, OnErr, IfOk, IfSome, IfNone, IsTrue, drop, is_some, length, map, slice_index_or};
 ghost use Rattle.std.specs.Option.{option_copied, option_map};
@@ -18,7 +18,7 @@ use wl_geom::Rect;
 /// How many configures may wait for an acknowledgement.
 const MOST_WAITING: usize = 64;
 
-/// The role object of an xdg_surface that is a toplevel.
+/// The toplevel that is the role object of an xdg_surface.
 #[derive(Clone, Copy, Debug, PartialEq, Eq)]
 pub struct Toplevel {
     /// The id of its xdg_toplevel.
@@ -26,7 +26,7 @@ pub struct Toplevel {
     pub stage: Stage,
 }
 
-/// An xdg_surface (xdg-shell.xml, xdg_surface). It is seen as the values that it keeps.
+/// An xdg_surface (xdg-shell.xml, xdg_surface). Contracts see it as the values that it keeps.
 #[derive(Drop)]
 pub struct XdgSurface {
     id: u32,
@@ -55,7 +55,7 @@ fn last_place_of(configures: &[Configure], serial: u32) -> Option<usize>
         .rposition(|configure| configure.serial == serial)
 }
 
-/// The first configures of so many go.
+/// Forgets this many configures, the first ones.
 fn forget_first(configures: &mut ArrayVec<Configure, MOST_WAITING>, count: usize)
     ensures { configures.new.items ≡ drop count configures.old.items }
 {
@@ -122,29 +122,30 @@ impl XdgSurface {
         Some(role.stage())
     }
 
-    /// It has a role object.
+    /// Whether it has a role object.
     pub fn has_role(&self) -> bool
         ensures { result ≡ is_some self.now.role }
     {
         self.role.is_some()
     }
 
-    /// Its surface is mapped.
+    /// Whether its surface is mapped.
     pub fn is_mapped(&self) -> bool
         ensures { IsTrue result ↔ (stage_in self.now ≡ Some Stage.Mapped) }
     {
         self.stage() == Some(Stage::Mapped)
     }
 
-    /// The window geometry that counts, if one was set since its role object was made and since its surface was last unmapped
-    /// (xdg-shell.xml, xdg_surface.set_window_geometry).
+    /// The window geometry that counts, in pixels from the corner of the surface (xdg-shell.xml,
+    /// xdg_surface.set_window_geometry). `None` if none was set since its role object was made, or
+    /// since its surface was last unmapped.
     pub fn window_geometry(&self) -> Option<Rect>
         ensures { result ≡ self.now.applied }
     {
         self.applied
     }
 
-    /// What was asked is forgotten, and so are the configures.
+    /// Forgets what was asked, and the configures.
     fn forget(&mut self)
         ensures { self.new ≡ kept_forgetting self.old }
     {
@@ -153,11 +154,12 @@ impl XdgSurface {
         self.applied = None;
     }
 
-    /// It may get a role object.
+    /// Whether it may get a role object.
     ///
     /// # Errors
     ///
-    /// The first of these. `AlreadyConstructed` where it has a role object, `Role` where its surface has another role.
+    /// The first of these. `AlreadyConstructed` if it has a role object, `Role` if its surface has
+    /// another role.
     fn check_new(&self, has_other_role: bool) -> Result<(), ShellError>
         ensures { result ≡ toplevel_answer has_other_role (Some self.now) }
     {
@@ -170,11 +172,13 @@ impl XdgSurface {
         Ok(())
     }
 
-    /// xdg_surface.get_toplevel: its role object is a new toplevel. What was asked before is forgotten.
+    /// xdg_surface.get_toplevel: its role object is a new toplevel. What was asked before is
+    /// forgotten.
     ///
     /// # Errors
     ///
-    /// The first of these; each changes nothing. `AlreadyConstructed` where it has a role object, `Role` where its surface has another role.
+    /// The first of these; each changes nothing. `AlreadyConstructed` if it has a role object,
+    /// `Role` if its surface has another role.
     pub fn get_toplevel(&mut self, id: u32, has_other_role: bool) -> Result<(), ShellError>
         ensures answer { result ≡ toplevel_answer has_other_role (Some self.old) }
         ensures ok { OnOk result (self.new ≡ kept_toplevel id self.old) }
@@ -186,13 +190,17 @@ impl XdgSurface {
         Ok(())
     }
 
-    /// xdg_surface.get_popup: its role object is a new popup, of this number in order of creation; the positioner is copied. `parent` is the id of
-    /// the parent's xdg_surface where that has a role object, and none elsewhere. What was asked before is forgotten.
+    /// xdg_surface.get_popup: its role object is a new popup, of this number in order of creation.
+    /// The positioner is copied. `parent` is the id of the parent's xdg_surface, if that has a role
+    /// object. What was asked before is forgotten.
     ///
     /// # Errors
     ///
-    /// The first of these; each changes nothing. `AlreadyConstructed` where it has a role object, `Role` where its surface has another role,
-    /// `InvalidPopupParent` where there is no such parent, `InvalidPositioner` where the positioner isn't complete.
+    /// The first of these; each changes nothing:
+    /// - `AlreadyConstructed`, if it has a role object;
+    /// - `Role`, if its surface has another role;
+    /// - `InvalidPopupParent`, if there is no such parent;
+    /// - `InvalidPositioner`, if the positioner isn't complete.
     pub fn get_popup(
         &mut self,
         id: u32,
@@ -217,11 +225,13 @@ impl XdgSurface {
         Ok(())
     }
 
-    /// xdg_surface.set_window_geometry: the window geometry, in pixels from the corner of the surface, is this from the next commit on.
+    /// xdg_surface.set_window_geometry: this is the window geometry from the next commit on, in
+    /// pixels from the corner of the surface.
     ///
     /// # Errors
     ///
-    /// The first of these; each changes nothing. `NotConstructed` where it has no role object, `InvalidSize` where a side isn't positive.
+    /// The first of these; each changes nothing. `NotConstructed` if it has no role object,
+    /// `InvalidSize` if a side isn't positive.
     pub fn ask_geometry(&mut self, rect: Rect) -> Result<(), ShellError>
         ensures answer { result ≡ geometry_answer rect (Some self.old) }
         ensures ok { OnOk result (self.new ≡ kept_asking rect self.old) }
@@ -237,13 +247,14 @@ impl XdgSurface {
         Ok(())
     }
 
-    /// xdg_surface.ack_configure: the last configure of this serial and those before it don't wait any more. Where one of them places a popup
-    /// anew, the latest such place waits for the next commit.
+    /// xdg_surface.ack_configure: the last configure of this serial, and those before it, don't
+    /// wait any more. The latest of them that places a popup anew makes its place wait for the next
+    /// commit.
     ///
     /// # Errors
     ///
-    /// The first of these; each changes nothing. `NotConstructed` where it has no role object, `InvalidSerial` where no configure of this
-    /// serial waits.
+    /// The first of these; each changes nothing. `NotConstructed` if it has no role object,
+    /// `InvalidSerial` if no configure of this serial waits.
     pub fn acknowledge(&mut self, serial: u32) -> Result<(), ShellError>
         ensures answer { result ≡ acknowledgement_answer serial (Some self.old) }
         ensures ok { OnOk result (self.new ≡ kept_acknowledging serial self.old) }
@@ -260,11 +271,11 @@ impl XdgSurface {
         Ok(())
     }
 
-    /// One configure more may wait.
+    /// Whether one more configure may wait.
     ///
     /// # Errors
     ///
-    /// `TooMany` where 64 of them wait.
+    /// `TooMany` if 64 of them wait.
     fn check_room(&self) -> Result<(), ShellError>
         ensures { result ≡ room_answer (is_full self.now.configures) }
     {
@@ -274,7 +285,7 @@ impl XdgSurface {
         Ok(())
     }
 
-    /// Its role object is a popup that was dismissed.
+    /// Whether its role object is a popup that was dismissed.
     fn is_dismissed(&self) -> bool
         ensures { result ≡ is_dismissed_in self.now.role }
     {
@@ -284,7 +295,7 @@ impl XdgSurface {
         }
     }
 
-    /// Where its popup will stand by the next commit that doesn't unmap it.
+    /// Where the next commit puts its popup, unless that unmaps it.
     fn waiting(&self) -> Option<Placed>
         ensures { result ≡ waiting_in self.now.role }
     {
@@ -299,7 +310,7 @@ impl XdgSurface {
         popup.place(bounds, parent_at)
     }
 
-    /// A commit that changes no stage: a place that waits comes into force.
+    /// What a commit leads to that changes no stage: a place that waits comes into force.
     fn arrival(&self) -> ShellAct
         ensures { result ≡ arrival (waiting_in self.now.role) }
     {
@@ -309,7 +320,7 @@ impl XdgSurface {
         }
     }
 
-    /// What a commit comes to. The table isn't used for a popup that was dismissed.
+    /// What a commit leads to. The table isn't used for a dismissed popup.
     fn answer(
         &self,
         has_buffer: bool,
@@ -337,7 +348,7 @@ impl XdgSurface {
         }
     }
 
-    /// One configure more waits.
+    /// Makes one more configure wait.
     fn push(&mut self, serial: u32, placement: Option<Placed>)
         requires { is_full self.old.configures ≡ false }
         ensures { self.new ≡ kept_configuring_with serial placement self.old }
@@ -345,7 +356,7 @@ impl XdgSurface {
         self.configures.push(Configure { serial, placement });
     }
 
-    /// The role object is in this stage, where there is one.
+    /// Puts the role object into this stage, if there is one.
     fn set_stage(&mut self, stage: Stage)
         ensures { self.new ≡ kept_in_stage stage self.old }
     {
@@ -354,7 +365,7 @@ impl XdgSurface {
         }
     }
 
-    /// This happens to its popup, where it has one.
+    /// Makes this change to its popup, if it has one.
     fn change(&mut self, change: &PopupChange)
         ensures { self.new ≡ kept_changed (popup_by change.now) self.old }
     {
@@ -363,7 +374,8 @@ impl XdgSurface {
         }
     }
 
-    /// Its surface isn't mapped any more. A popup holds no grab then, stands where it stood, and forgets where it was to be placed.
+    /// Its surface is unmapped. A popup then holds no grab, stays where it is, and forgets where it
+    /// was to be placed.
     fn unmap(&mut self)
         ensures { self.new ≡ kept_unmapping self.old }
     {
@@ -372,7 +384,7 @@ impl XdgSurface {
         self.change(&PopupChange::Unmap);
     }
 
-    /// A popup is placed there, and a configure of this serial is sent.
+    /// Places a popup at this place, and makes a configure of this serial wait.
     fn configure_placed(&mut self, placed: Option<Placed>, serial: u32)
         requires { is_full self.old.configures ≡ false }
         ensures { self.new ≡ kept_configuring serial (kept_changed (in_force placed) (kept_in_stage Waiting self.old)) }
@@ -399,7 +411,7 @@ impl XdgSurface {
         self.set_stage(Stage::Mapped);
     }
 
-    /// A commit comes to this.
+    /// Does what a commit leads to.
     fn act(&mut self, act: ShellAct, serial: u32)
         requires { (placed : Option Placed) → act ≡ ShellAct.Configure placed → is_full self.old.configures ≡ false }
         ensures { self.new ≡ kept_after serial act self.old }
@@ -414,15 +426,19 @@ impl XdgSurface {
         }
     }
 
-    /// wl_surface.commit: its surface is committed, and its state then has a buffer, or none. The window geometry that was asked counts from
-    /// then on. Where a configure is to be sent it has this serial, which waits to be acknowledged; a popup is placed then, within the bounds,
-    /// given in pixels of the output, its parent's window geometry standing at `parent_at` there. One that was placed anew stands there from the
-    /// first commit on after that was acknowledged, unless the commit unmaps it. Of a dismissed popup nothing else changes.
+    /// wl_surface.commit, after which the surface has a buffer or not. The window geometry that was
+    /// asked counts from now on. A configure to be sent has this serial, and waits to be
+    /// acknowledged.
+    ///
+    /// `Configure` also places a popup, within the bounds. They are in pixels of the output, as is
+    /// `parent_at`, where the parent's window geometry stands. A popup placed anew moves at the
+    /// first commit after its client acknowledged that, unless the commit unmaps it. Nothing else
+    /// changes of a dismissed popup.
     ///
     /// # Errors
     ///
-    /// Each changes nothing. `UnconfiguredBuffer` where the state has a buffer and no configure was acknowledged, `TooMany` where a configure
-    /// would be sent and 64 of them wait.
+    /// Each changes nothing. `UnconfiguredBuffer` if the surface has a buffer and no configure was
+    /// acknowledged; `TooMany` if a configure would be sent and 64 of them wait.
     pub fn commit(
         &mut self,
         has_buffer: bool,
@@ -439,12 +455,12 @@ impl XdgSurface {
         Ok(act)
     }
 
-    /// xdg_toplevel.set_maximized and the like: a request for another state is answered by a configure of this serial where one was sent before,
-    /// and by nothing else. It says whether it is answered.
+    /// xdg_toplevel.set_maximized and the like: asks for another state. If a configure was sent
+    /// before, one of this serial answers it; else nothing does. The answer says which.
     ///
     /// # Errors
     ///
-    /// `TooMany` where a configure would be sent and 64 of them wait; nothing changes.
+    /// `TooMany` if a configure would be sent and 64 of them wait; nothing changes.
     pub fn configure(&mut self, serial: u32) -> Result<bool, ShellError>
         ensures answer { result ≡ configure_answer (Some self.old) }
         ensures ok { IfOk result (λ is_sent. self.new ≡ kept_configured is_sent serial self.old) }
@@ -458,7 +474,7 @@ impl XdgSurface {
         Ok(true)
     }
 
-    /// Its role object is a popup that was configured before and isn't dismissed.
+    /// Whether its role object is a popup that was configured before and isn't dismissed.
     fn is_popup_configured(&self) -> bool
         ensures { result ≡ is_configured_in self.now.role }
     {
@@ -466,7 +482,7 @@ impl XdgSurface {
             && self.stage().is_some_and(Stage::answers_states)
     }
 
-    /// Where its popup is placed anew by this positioner, if it is to be configured anew.
+    /// Where this positioner places its popup anew, if it is to be configured anew.
     fn placed_anew(
         &self,
         positioner: &Positioner,
@@ -485,15 +501,18 @@ impl XdgSurface {
         Ok(is_configured.then(|| positioner.place(bounds, parent_at)))
     }
 
-    /// xdg_popup.reposition: the positioner is copied for its popup. Where that was configured before and isn't dismissed it is placed anew, within
-    /// the bounds, given in pixels of the output, its parent's window geometry standing at `parent_at` there: that place is answered, to be sent
-    /// with a configure of this serial, which waits to be acknowledged. The popup stands where it stood until a commit after that. Where there is
-    /// no popup nothing changes. It takes no memory.
+    /// xdg_popup.reposition: its popup gets a copy of the positioner. One that was configured
+    /// before and isn't dismissed is placed anew, within the bounds. They are in pixels of the
+    /// output, as is `parent_at`, where the parent's window geometry stands. It takes no memory.
+    ///
+    /// The answer is the new place, to be sent with a configure of this serial, which waits to be
+    /// acknowledged. The popup stays where it is until a commit after that. Without a popup nothing
+    /// changes.
     ///
     /// # Errors
     ///
-    /// The first of these; each changes nothing. `TooMany` where a configure would be sent and 64 of them wait, `InvalidPositioner` where the
-    /// positioner isn't complete.
+    /// The first of these; each changes nothing. `TooMany` if a configure would be sent and 64 of
+    /// them wait; `InvalidPositioner` if the positioner isn't complete.
     pub fn reposition(
         &mut self,
         positioner: &Positioner,
@@ -516,12 +535,13 @@ impl XdgSurface {
         Ok(placed)
     }
 
-    /// xdg_popup.grab: its popup has a grab where it is allowed. True where that is so, and where nothing is done, since its popup was dismissed
-    /// or it has none; false, and nothing changes, where the popup is to be dismissed.
+    /// xdg_popup.grab: its popup gets a grab if it is allowed. The answer is false, and nothing
+    /// changes, if the popup is to be dismissed. It is true if the popup has the grab, or if
+    /// nothing is to be done, since it was dismissed or isn't there.
     ///
     /// # Errors
     ///
-    /// `InvalidGrab` where the popup is mapped; nothing changes.
+    /// `InvalidGrab` if the popup is mapped; nothing changes.
     pub fn grab(&mut self, is_allowed: bool) -> Result<bool, ShellError>
         ensures answer { result ≡ grab_answer is_allowed (Some self.old) }
         ensures ok { IfOk result (λ is_taken. self.new ≡ kept_grabbing is_taken self.old) }
@@ -539,21 +559,23 @@ impl XdgSurface {
         Ok(is_allowed)
     }
 
-    /// Its popup, if it has one, is dismissed, and has no grab any more.
+    /// Dismisses its popup, if it has one. That has no grab any more.
     pub fn dismiss(&mut self)
         ensures { self.new ≡ kept_changed dismiss self.old }
     {
         self.change(&PopupChange::Dismiss);
     }
 
-    /// The toplevel of the xdg_surface with this id goes. Where that is the parent of its popup, the popup has no parent any more.
+    /// The toplevel of the xdg_surface with this id goes. If that is the parent of its popup, the
+    /// popup has no parent any more.
     pub fn orphan(&mut self, xdg_surface: u32)
         ensures { self.new ≡ kept_changed (orphan xdg_surface) self.old }
     {
         self.change(&PopupChange::Orphan(xdg_surface));
     }
 
-    /// xdg_toplevel.destroy or xdg_popup.destroy: its role object goes, and what was asked is forgotten.
+    /// xdg_toplevel.destroy or xdg_popup.destroy: its role object goes, and what was asked is
+    /// forgotten.
     pub fn destroy_role(&mut self)
         ensures { self.new ≡ kept_without_role self.old }
     {

@@ -4,7 +4,7 @@ ghost use Rattle.wl_store.specs.Layout.{FitsIn, format_of, has_room, layout_refu
 use crate::color::Format;
 use crate::place::{Layout, LayoutError};
 
-/// The number, where it isn't negative.
+/// The number, if it isn't negative.
 fn natural(number: i32) -> Option<u32>
     ensures { MatchOption result (number <ℤ pos 0) (λ n. (number ≡ pos n) × (n < 2 ^ 31)) }
 {
@@ -21,9 +21,14 @@ fn is_room(size: u32, offset: u32, w: u32, h: u32, stride: u32) -> bool
 
 /// The layout of a buffer in a store of `size` bytes, as wl_shm_pool.create_buffer asks for it.
 ///
-/// `Format` where the format is neither 0 (argb8888) nor 1 (xrgb8888). Else `Stride` where the offset
-/// is negative, the width or the height isn't positive, the stride is below four times the width, or
-/// `offset + stride * h` is past `size`.
+/// # Errors
+///
+/// `Format` if the format is neither 0 (argb8888) nor 1 (xrgb8888). Else `Stride` if one of these
+/// holds:
+/// - the offset is negative;
+/// - the width or the height isn't positive;
+/// - the stride is below four times the width;
+/// - `offset + stride * h` is past `size`.
 pub fn layout(
     size: u32,
     offset: i32,

@@ -7,8 +7,8 @@ pub struct Argb {
     pub b: u8,
 }
 
-/// How the four bytes of a pixel are read (wayland.xml, wl_shm.format): blue, green, red and alpha, from
-/// the lowest address.
+/// How the four bytes of a pixel are read (wayland.xml, wl_shm.format): blue, green, red and alpha,
+/// from the lowest address.
 #[derive(Clone, Copy, Debug, PartialEq, Eq)]
 pub enum Format {
     /// Number 0: with the alpha of the fourth byte.

@@ -1,9 +1,9 @@
-//! Stores of bytes, as `wl_shm_pool` shares them, and pictures that lend a store's bytes as the content
-//! of a surface.
+//! Stores of bytes, as `wl_shm_pool` shares them, and pictures that lend a store's bytes as the
+//! content of a surface. Begin with [`Stores`], a client's stores by their numbers. How colours are
+//! laid over others is left to wl_blend and wl_paint.
 //!
-//! [`Stores`] is a client's stores by their numbers. [`layout`] judges where a buffer's pixels lie in a
-//! store, and [`Stores::picture`] lends them: a [`Picture`] copies nothing, so its colours are those of
-//! the store's bytes at the moment.
+//! [`layout`] judges where a buffer's pixels lie in a store, and [`Stores::picture`] lends them. A
+//! [`Picture`] copies nothing, so its colours are those of the store's bytes now.
 #![tactic(auto)]
 
 mod accept;

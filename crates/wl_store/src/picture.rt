@@ -60,7 +60,7 @@ fn buffer_pixel(bytes: &[u8], layout: &Layout, x: u32, y: u32) -> Argb
 }
 
 impl<'a> Picture<'a> {
-    /// None where the layout passes the end of the bytes.
+    /// `None` if the layout passes the end of the bytes.
     pub(crate) fn new(
         bytes: &'a [u8],
         layout: &Layout,
@@ -113,15 +113,15 @@ impl<'a> Picture<'a> {
         }
     }
 
-    /// The width of the surface, in pixels: that of the buffer, or its height where it is turned by a quarter, divided by the scale and
-    /// rounded down.
+    /// The width of the surface, in pixels: that of the buffer, or its height if it is turned by a
+    /// quarter, divided by the scale and rounded down.
     pub fn width(&self) -> u32
         ensures { result ≡ surface_width self.now }
     {
         self.sides().0
     }
 
-    /// The height of the surface, in pixels, as its width.
+    /// The height of the surface, in pixels, found in the same way.
     pub fn height(&self) -> u32
         ensures { result ≡ surface_height self.now }
     {
@@ -183,7 +183,8 @@ impl<'a> Picture<'a> {
         buffer_pixel(self.bytes, &self.layout, x, y)
     }
 
-    /// Reads the points of the surface from (i, j) to the right into a run of pixels, four bytes each, up to its end. The answer is their format.
+    /// Reads the points of the surface from (i, j) to the right into a run of pixels, four bytes
+    /// each, up to its end. The answer is their format.
     pub fn read(&self, i: u32, j: u32, run: &mut [u8]) -> Format
         requires whole { length run.old % 4 ≡ 0 }
         requires columns { i + length run.old / 4 ≤ surface_width self.now }

@@ -3,8 +3,8 @@ ghost use Rattle.std.specs.Prelude.{◌≤◌, ◌<◌, ◌*◌, ◌^◌};
 use crate::color::Format;
 use thiserror::Error;
 
-/// Where a buffer's pixels lie in a store: `h` rows of `w` pixels of four bytes each, the first row at
-/// `offset` and each `stride` bytes after the one before.
+/// Where a buffer's pixels lie in a store: `h` rows of `w` pixels of four bytes each. The first row
+/// is at `offset`, and each other one `stride` bytes after the one before.
 #[derive(Clone, Copy, Debug)]
 pub struct Layout {
     pub offset: u32,
@@ -20,7 +20,7 @@ pub struct Layout {
     pub ghost stride_fits: { stride < 2 ^ 31 },
 }
 
-/// Why a buffer can't lie as it was asked for.
+/// Why a buffer can't be laid out as it was asked for.
 #[derive(Clone, Copy, Debug, PartialEq, Eq, Error)]
 pub enum LayoutError {
     /// wl_shm: invalid_stride.

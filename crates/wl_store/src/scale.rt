@@ -1,7 +1,7 @@
 ghost use Rattle.std.specs.Prelude.{◌≡◌, ◌≤◌, ◌/◌};
 
-/// How many points of a buffer there are for one point of the surface that shows it, in each direction (wayland.xml,
-/// wl_surface.set_buffer_scale).
+/// How many points of a buffer make one point of the surface that shows it, in each direction
+/// (wayland.xml, wl_surface.set_buffer_scale).
 #[derive(Clone, Copy, Debug, PartialEq, Eq)]
 pub struct Scale {
     pub number: u32,
@@ -9,10 +9,11 @@ pub struct Scale {
 }
 
 impl Scale {
-    /// The scale of a surface for which none was set: it shows each point of its buffer.
+    /// The scale of a surface without another: it shows each point of its buffer.
     pub const ONE: Scale = Scale { number: 1 };
 
-    /// A side of the surface that shows a buffer with this side. The division is left out where the scale is 1, as it mostly is.
+    /// A side of the surface that shows a buffer with this side. It leaves the division out if the
+    /// scale is 1, as it mostly is.
     pub(crate) fn side(self, side: u32) -> u32
         ensures { result ≡ side / self.number }
     {

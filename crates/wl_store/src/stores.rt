@@ -102,7 +102,7 @@ fn position_of<A: Allocator>(held: &[Store<A>], number: StoreNo) -> Option<usize
     held.iter().position(|store| store.number() == number)
 }
 
-/// Where the store of this number lies.
+/// Where the store of this number is, if it is live.
 fn place_of<A: Allocator>(held: &[Store<A>], number: StoreNo) -> Option<usize>
     ensures found { IfSome result (IsPlace (seen held.now) number) }
     ensures absent { IfNone result (find (λ s. s.number == number) (seen held.now) ≡ None) }
@@ -197,7 +197,7 @@ impl<A: Allocator> Stores<A> {
         self.held.len() == MAX_STORES || self.made == u32::MAX
     }
 
-    /// How many bytes the store has; None where it isn't live.
+    /// How many bytes the store has, if it is live.
     pub fn size(&self, store: StoreNo) -> Option<u32>
         ensures { result ≡ option_map (λ s. length s.bytes) (store_at store self.now) }
     {
@@ -213,7 +213,8 @@ impl<A: Allocator> Stores<A> {
         Some(found.bytes(&self.zeros))
     }
 
-    /// The least number of a live store that is above this one; None where there is none. It takes no memory.
+    /// The least number of a live store that is above this one, if there is one. It takes no
+    /// memory.
     pub fn next_after(&self, number: StoreNo) -> Option<StoreNo>
         ensures next { result ≡ next_after number self.now }
         ensures rises { IfSome result (λ next. number < next) }
@@ -224,7 +225,9 @@ impl<A: Allocator> Stores<A> {
 
     /// Puts these bytes in place of those from `at` on.
     ///
-    /// `NoStore`, or `OutOfRange` where they pass the end of the store; nothing is changed then.
+    /// # Errors
+    ///
+    /// `NoStore`, or `OutOfRange` if they pass the end of the store. Nothing changes then.
     pub fn write(&mut self, store: StoreNo, at: u32, bytes: &[u8]) -> Result<(), StoreError>
         ensures refused { IfSome (write_refusal store at (length bytes.now) self.old) (λ error. result ≡ Err error) }
         ensures accepted { IfNone (write_refusal store at (length bytes.now) self.old) (IsOk result) }
@@ -243,7 +246,8 @@ impl<A: Allocator> Stores<A> {
         Ok(())
     }
 
-    /// Why no store of this size is made, but for want of memory: `TooMany`, `TooLarge` or `BadSize`, as `create` answers them.
+    /// Why no store of this size is made, memory aside: `TooMany`, `TooLarge` or `BadSize`, as
+    /// `create` answers them.
     pub fn create_refusal(&self, size: i32) -> Option<StoreError>
         ensures first { result ≡ create_refusal size self.now }
         ensures few { IfNone result (is_full self.now ≡ false) }
@@ -255,7 +259,8 @@ impl<A: Allocator> Stores<A> {
         new_refusal(self.total, size)
     }
 
-    /// Why the store doesn't get this size, but for want of memory: `NoStore`, `TooLarge` or `Shrinks`, as `resize` answers them.
+    /// Why the store doesn't get this size, memory aside: `NoStore`, `TooLarge` or `Shrinks`, as
+    /// `resize` answers them.
     pub fn resize_refusal(&self, store: StoreNo, size: i32) -> Option<StoreError>
         ensures { result ≡ resize_refusal store size self.now }
     {
@@ -265,7 +270,7 @@ impl<A: Allocator> Stores<A> {
         size_refusal(self.total, self.held[place].size(), size)
     }
 
-    /// Whether one use more can be counted: the store is live and has fewer than 4,294,967,295.
+    /// Whether one more use can be counted: the store is live and has fewer than 4,294,967,295.
     pub fn can_hold(&self, store: StoreNo) -> bool
         ensures { result ≡ can_hold store self.now }
     {
@@ -275,7 +280,7 @@ impl<A: Allocator> Stores<A> {
         self.held[place].uses() < u32::MAX
     }
 
-    /// Counts one use more. False where the store isn't live or has 4,294,967,295 uses.
+    /// Counts one more use. The answer is false if the store isn't live or has 4,294,967,295 uses.
     pub fn hold(&mut self, store: StoreNo) -> bool
         ensures allowed { result ≡ can_hold store self.old }
         ensures counted { self.new ≡ (if result then used store self.old else self.old) }
@@ -291,7 +296,8 @@ impl<A: Allocator> Stores<A> {
         true
     }
 
-    /// Counts one use less; at none the store is gone. False where the store isn't live.
+    /// Counts one use less; without uses the store goes. The answer is false if the store isn't
+    /// live.
     pub fn let_go(&mut self, store: StoreNo) -> bool
         ensures live { result ≡ is_some (store_at store self.old) }
         ensures counted { self.new ≡ (if result then let_go store self.old else self.old) }
@@ -309,10 +315,10 @@ impl<A: Allocator> Stores<A> {
         true
     }
 
-    /// Lends the store's bytes as the content of a surface. `transform` is the protocol's number, and `scale` is how many points of the
-    /// buffer there are for one of the surface in each direction.
+    /// Lends the store's bytes as the content of a surface. `transform` is the protocol's number.
+    /// `scale` is how many points of the buffer make one of the surface, in each direction.
     ///
-    /// None where the store isn't live or the layout passes its end.
+    /// `None` if the store isn't live or the layout passes its end.
     pub fn picture(
         &self,
         store: StoreNo,
@@ -332,7 +338,7 @@ impl<A: Allocator> Stores<A> {
         self.picture_turned(store, layout, turned, Scale { number: scale })
     }
 
-    /// The same, turned and scaled so.
+    /// The same, with this transform and scale.
     pub fn picture_turned(
         &self,
         store: StoreNo,
@@ -368,9 +374,13 @@ impl<A: Allocator + Copy> Stores<A> {
 
     /// Makes a store of `size` zeros with one use.
     ///
-    /// `TooMany` where 64 stores are live or 4,294,967,295 were made, then `TooLarge` where all stores
-    /// would have more than 268,435,456 bytes, then `BadSize` where the size isn't positive, then
-    /// `Memory`; nothing is changed then.
+    /// # Errors
+    ///
+    /// The first of these; nothing changes then:
+    /// - `TooMany`, if 64 stores are live or 4,294,967,295 were made;
+    /// - `TooLarge`, if all stores would have more than 268,435,456 bytes;
+    /// - `BadSize`, if the size isn't positive;
+    /// - `Memory`.
     pub fn create(&mut self, size: i32) -> Result<StoreNo, StoreError>
         ensures refused { IfSome (create_refusal size self.old) (λ error. result ≡ Err error) }
         ensures accepted { IfNone (create_refusal size self.old) (IfErr result (λ error. error ≡ StoreError.Memory)) }
@@ -407,8 +417,13 @@ impl<A: Allocator + Copy> Stores<A> {
 
     /// Puts zeros at the end of the store, up to `size` bytes.
     ///
-    /// `NoStore`, then `TooLarge` where all stores would have more than 268,435,456 bytes, then
-    /// `Shrinks` where the store has more, then `Memory`; nothing is changed then.
+    /// # Errors
+    ///
+    /// The first of these; nothing changes then:
+    /// - `NoStore`;
+    /// - `TooLarge`, if all stores would have more than 268,435,456 bytes;
+    /// - `Shrinks`, if the store has more;
+    /// - `Memory`.
     pub fn resize(&mut self, store: StoreNo, size: i32) -> Result<(), StoreError>
         ensures refused { IfSome (resize_refusal store size self.old) (λ error. result ≡ Err error) }
         ensures accepted { IfNone (resize_refusal store size self.old) (IfErr result (λ error. error ≡ StoreError.Memory)) }

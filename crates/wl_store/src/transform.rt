@@ -15,7 +15,8 @@ pub enum Transform {
     Flipped270,
 }
 
-/// Where the shown point of the buffer goes from each point of the surface to the next one on its right.
+/// Where the shown point of the buffer moves, from each point of the surface to the next one on its
+/// right.
 #[derive(Clone, Copy, Debug, PartialEq, Eq)]
 pub(crate) enum Course {
     Right,
@@ -58,7 +59,8 @@ impl Transform {
         }
     }
 
-    /// The point of the buffer that the point (i, j) of a surface shows, where the surface is `width` by `height` and isn't scaled.
+    /// The point of the buffer that the point (i, j) of a surface shows. The surface is `width` by
+    /// `height`, and isn't scaled.
     pub(crate) fn buffer_point(self, width: u32, height: u32, i: u32, j: u32) -> (u32, u32)
         requires column { i < width }
         requires row { j < height }

@@ -10,8 +10,8 @@ use crate::states::SurfaceNo;
 use std::alloc::Allocator;
 use wl_geom::Rect;
 
-/// What a call changed: the surfaces that it applied or took away, the buffers that aren't busy any more (wayland.xml,
-/// wl_buffer.release), and the callbacks that go with a surface.
+/// What a call changed: the surfaces that it applied or took away, the buffers that aren't busy any
+/// more (wayland.xml, wl_buffer.release), and the callbacks that go with a surface.
 #[derive(Drop)]
 pub struct Applied<A: Allocator> {
     pub changes: Vec<Change<A>, A>,
@@ -19,15 +19,16 @@ pub struct Applied<A: Allocator> {
     pub callbacks: Vec<u32, A>,
 }
 
-/// A surface whose state was applied, or which is gone and showed a buffer. `rects` is the damage that was applied, that of the buffer too, in surface
-/// pixels, not cut to the surface; more than 1,024 rectangles damage all of it (wayland.xml, wl_surface.damage, damage_buffer).
+/// A surface whose state was applied, or which is gone and showed a buffer. `rects` is the damage
+/// that was applied, the buffer's too, in surface pixels and not cut to the surface. More than
+/// 1,024 rectangles damage all of it (wayland.xml, wl_surface.damage, damage_buffer).
 #[derive(Drop)]
 pub struct Change<A: Allocator> {
     pub surface: SurfaceNo,
     pub rects: Vec<Rect, A>,
 }
 
-/// The surface is applied, and what that changes.
+/// Applies the surface, and answers what that changes.
 pub(crate) fn apply_change<A: Allocator>(
     state: &mut SurfaceState<A>,
     surface: SurfaceNo,

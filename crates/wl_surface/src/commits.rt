@@ -24,16 +24,17 @@ use crate::surfaces::Surfaces;
 use crate::tree::{add_freed, apply_each, below, shown_of};
 use std::alloc::{AllocError, Allocator};
 
-/// What a call applied, and the buffers that the surfaces which it applied, held or ended had applied and held before it, as they were
-/// attached. One that was shown more than once is there as often. Each buffer that is freed is among them (wayland.xml, wl_buffer.release).
+/// What a call applied, and which buffers its surfaces had applied and held before it, as they were
+/// attached. Its surfaces are those that it applied, held or ended. A buffer that was shown more
+/// than once is there as often. Each freed buffer is among them (wayland.xml, wl_buffer.release).
 #[derive(Drop)]
 pub struct Told<A: Allocator> {
     pub applied: Applied<A>,
     pub shown: Vec<Attached, A>,
 }
 
-/// What is found before a tree is applied, while nothing has changed yet: its surfaces, the buffers that these show, and room for what
-/// is told.
+/// What is found before a tree is applied, while nothing has changed yet: its surfaces, the buffers
+/// that these show, and room for what is told.
 #[derive(Drop)]
 pub(crate) struct Room<A: Allocator> {
     pub(crate) below: Vec<SurfaceNo, A>,
@@ -43,12 +44,14 @@ pub(crate) struct Room<A: Allocator> {
 }
 
 impl<A: Allocator + Copy> Surfaces<A> {
-    /// wl_surface.commit: what is pending is held and, unless the surface behaves synchronised, applied with what descends from it. What that
-    /// changes is told, and which buffers were shown before.
+    /// wl_surface.commit: the pending state becomes the held one. Unless the surface behaves
+    /// synchronised, it is applied with its descendants. The answer is what that changes, and which
+    /// buffers were shown before.
     ///
     /// # Errors
     ///
-    /// `Size` where the sides of the buffer that it would show are no multiples of the scale, and else `Memory`. Nothing changes then.
+    /// `Size` if the sides of the buffer that it would show are no multiples of the scale, else
+    /// `Memory`. Nothing changes then.
     pub fn commit(&mut self, surface: SurfaceNo) -> Result<Told<A>, SurfaceError>
         ensures ok { OnOk result ((all : Asked) → Stand self.old.states self.old.family all → Stand self.new.states self.new.family (committed_in surface all)) }
         ensures waits { OnOk result ((all : Asked) (cs : List Callback) → Stand self.old.states self.old.family all → AreWaiting self.old.states.frames (numbered all) cs
@@ -123,8 +126,9 @@ impl<A: Allocator + Copy> Surfaces<A> {
         Ok(self.apply_tree(room))
     }
 
-    /// wl_subsurface.set_desync: the child's commits are applied at once, unless a surface above it is synchronised. What was held is applied
-    /// where it behaved synchronised and doesn't any more. Nothing changes where it has no link, and nothing is told; nor does it without memory.
+    /// wl_subsurface.set_desync: the child's commits are applied at once, unless a surface above it
+    /// is synchronised. If it behaved synchronised and doesn't any more, its held state is applied.
+    /// Without a link nothing changes and nothing is told. Without memory nothing changes.
     pub fn set_desync(&mut self, child: SurfaceNo) -> Result<Told<A>, SurfaceError>
         ensures ok { OnOk result ((all : Asked) (number : ℕ) (link : Link) → IsLink all number child link → Stand self.old.states self.old.family all
             → Stand self.new.states self.new.family (desynchronised_in number all)) }
@@ -156,8 +160,9 @@ impl<A: Allocator + Copy> Surfaces<A> {
         Ok(self.nothing())
     }
 
-    /// wl_subsurface.destroy: the link of the child ends, which is applied with what descends from it. Nothing changes where it has no link, and
-    /// nothing is told; nor does it without memory.
+    /// wl_subsurface.destroy: the link of the child ends, and the child is applied with its
+    /// descendants. Without a link nothing changes and nothing is told. Without memory nothing
+    /// changes.
     pub fn remove_subsurface(&mut self, child: SurfaceNo) -> Result<Told<A>, SurfaceError>
         ensures ok { OnOk result ((all : Asked) (number : ℕ) (link : Link) → IsLink all number child link → Stand self.old.states self.old.family all
             → Stand self.new.states self.new.family (ended_in all link)) }
@@ -184,8 +189,8 @@ impl<A: Allocator + Copy> Surfaces<A> {
         Ok(self.apply_tree(room))
     }
 
-    /// wl_surface.destroy: the surface is gone with its frame requests, and its links end, that to its parent and those to its children. What
-    /// descended from it is applied. Nothing changes without memory.
+    /// wl_surface.destroy: the surface is gone with its frame requests. Its links end, to its
+    /// parent and to its children, and its descendants are applied. Without memory nothing changes.
     pub fn destroy(&mut self, surface: SurfaceNo) -> Result<Told<A>, SurfaceError>
         ensures ok { OnOk result ((all : Asked) → Stand self.old.states self.old.family all → Stand self.new.states self.new.family (destroyed_in surface all)) }
         ensures waits { OnOk result ((all : Asked) (cs : List Callback) → Stand self.old.states self.old.family all → AreWaiting self.old.states.frames (numbered all) cs
@@ -214,7 +219,7 @@ impl<A: Allocator + Copy> Surfaces<A> {
         Ok(Told { applied, shown })
     }
 
-    /// Nothing is told.
+    /// An answer that tells nothing.
     fn nothing(&self) -> Told<A>
         ensures changes { result.applied.changes.items ≡ [] }
         ensures freed { result.applied.freed.items ≡ [] }
@@ -242,7 +247,7 @@ impl<A: Allocator + Copy> Surfaces<A> {
         }
     }
 
-    /// What it changes that a surface goes: that it shows no buffer any more.
+    /// What changes when a surface goes: it shows no buffer any more.
     fn own_end(&self, surface: SurfaceNo) -> Result<Vec<Change<A>, A>, AllocError>
         ensures { IfOk result (λ changes. (all : Numbered) → StandForAll self.now.states all → AreGone surface (all surface) changes.items) }
     {
@@ -256,7 +261,7 @@ impl<A: Allocator + Copy> Surfaces<A> {
         Ok(changes)
     }
 
-    /// Room for what it changes that the surface is applied with what descends from it, behind what is told before.
+    /// Room for what applying the surface and its descendants changes, behind what is told before.
     fn room(&self, surface: SurfaceNo, told: Vec<Change<A>, A>) -> Result<Room<A>, AllocError>
         ensures those { IfOk result (λ room. (number : ℕ) → is_among room.below.items number ≡ is_under 16 (parents_of (links_in self.now.family)) surface number) }
         ensures once { IfOk result (λ room. AreOnce room.below.items) }

@@ -6,13 +6,15 @@ ghost use Rattle.wl_surface.specs.Kept.{IsFarther};
 
 use wl_store::{Layout, StoreNo};
 
-/// A buffer's number among its client's: no other that is pending, held, applied or named by a wl_buffer has it.
+/// A buffer's number among its client's. No other buffer that is pending, held, applied or named by
+/// a wl_buffer has it.
 pub type BufferNo = u64;
 
 /// How far a surface may be from where it began, to each side, in pixels.
 const BOUND: i64 = 16_777_216;
 
-/// A wl_buffer as it is attached: its number, the id that it was made with, its store, and where it lies there.
+/// A wl_buffer as it is attached: its number, the id that it was made with, its store, and where it
+/// lies in that.
 #[derive(Clone, Copy, Debug)]
 pub struct Attached {
     pub number: BufferNo,
@@ -28,7 +30,8 @@ pub struct Offset {
     pub y: i32,
 }
 
-/// A place, in pixels, held within -16,777,216 to 16,777,216: the nearest bound where it is farther.
+/// A place, in pixels, held within -16,777,216 to 16,777,216: a farther one is at the nearest
+/// bound.
 pub fn held(place: i64) -> i32
     ensures { result ≡ within_bounds place }
 {
@@ -49,7 +52,7 @@ pub fn bounded_sum(a: i32, b: i32) -> i32
 }
 
 impl Offset {
-    /// Farther by so much, held within the bounds, or as it is.
+    /// The offset this much farther, held within the bounds.
     pub(crate) fn farther(self, by: Option<Offset>) -> Offset
         ensures { IsFarther self by result }
     {

@@ -7,8 +7,9 @@ ghost use Rattle.wl_surface.specs.Waiting.{applied_by, callbacks_of as those_of,
 use crate::states::SurfaceNo;
 use std::alloc::{AllocError, Allocator};
 
-/// A callback that waits (wayland.xml, wl_surface.frame): the surface that it was requested of, and its id. It is held once a commit of its
-/// surface came after it, and applied once the surface is applied after that.
+/// A callback that waits (wayland.xml, wl_surface.frame): the surface that it was requested of, and
+/// its id. A later commit of its surface makes it held, and it is applied once the surface is
+/// applied after that.
 #[derive(Clone, Copy)]
 pub(crate) struct Waiting {
     pub(crate) surface: SurfaceNo,
@@ -18,7 +19,7 @@ pub(crate) struct Waiting {
 }
 
 impl Waiting {
-    /// What a commit of the surface makes of it.
+    /// The request after a commit of the surface.
     fn held_by(self, surface: SurfaceNo) -> Waiting
         ensures { result ≡ held_by surface self }
     {
@@ -28,7 +29,7 @@ impl Waiting {
         }
     }
 
-    /// What it makes of it that the surface is applied.
+    /// The request after the surface is applied.
     fn applied_by(self, surface: SurfaceNo) -> Waiting
         ensures { result ≡ applied_by surface self }
     {

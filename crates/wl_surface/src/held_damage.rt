@@ -1,4 +1,4 @@
-//! The damage of a surface that is held.
+//! The held damage of a surface.
 
 ghost use Rattle.std.specs.Prelude.{ℕ, ◌≡◌, ◌<◌, ◌≤◌, ◌+◌, ◌||◌, ◌++◌, [], length, pos, take, vec_capacity, vec_len, OnErr, OnOk};
 ghost use Rattle.std.specs.List.{list_any};
@@ -15,8 +15,9 @@ use wl_geom::Rect;
 /// How many rectangles of each kind are kept: more than 1,024 of both damage the whole surface.
 pub(crate) const MAX_KEPT: usize = 1025;
 
-/// The damage of a surface that is held: rectangles of its points, and rectangles of points of its buffer. Among those of its own there is room for those of
-/// the buffer, so that it takes no memory to tell both as rectangles of the surface.
+/// The held damage of a surface: rectangles of its points, and rectangles of points of its buffer.
+/// The first list has room for the second, so telling both as rectangles of the surface takes no
+/// memory.
 #[derive(Drop)]
 pub(crate) struct HeldDamage<A: Allocator> {
     pub(crate) rects: Vec<Rect, A>,
@@ -24,7 +25,7 @@ pub(crate) struct HeldDamage<A: Allocator> {
     ghost room: { vec_len rects + vec_len buffer_rects ≤ vec_capacity rects },
 }
 
-/// Adds rectangles of a buffer as rectangles of the surface that shows it so. There is room for them.
+/// Adds rectangles of a buffer as rectangles of the surface of this shape. There is room for them.
 fn add_on_surface<A: Allocator>(rects: &mut Vec<Rect, A>, buffer_rects: &[Rect], shape: Shape)
     requires room { vec_len rects.old + length buffer_rects.now ≤ vec_capacity rects.old }
     ensures count { vec_len rects.new ≡ vec_len rects.old + length buffer_rects.now }
@@ -56,7 +57,8 @@ impl<A: Allocator + Copy> HeldDamage<A> {
 }
 
 impl<A: Allocator> HeldDamage<A> {
-    /// These rectangles are held after those that are: of each kind the first 1,025 are kept. Without memory nothing changes.
+    /// Holds these rectangles after those held: of each kind the first 1,025 are kept. Without
+    /// memory nothing changes.
     pub(crate) fn add(
         &mut self,
         rects: &mut Vec<Rect, A>,
@@ -83,7 +85,8 @@ impl<A: Allocator> HeldDamage<A> {
         Ok(())
     }
 
-    /// Takes out what is held, all as rectangles of the surface that shows its buffer so: those of the surface, and after them those of the buffer.
+    /// Takes out all that is held, as rectangles of the surface of this shape: those of the
+    /// surface, and then those of the buffer.
     pub(crate) fn take(&mut self, shape: Shape, alloc: A) -> Vec<Rect, A>
         ensures count { length result.items ≡ length self.old.rects.items + length self.old.buffer_rects.items }
         ensures points { (x y : ℕ) → x < shape.w → y < shape.h → list_any (in_rect (pos x) (pos y)) result.items

@@ -1,5 +1,9 @@
-//! The surfaces of a client with the links between them (wayland.xml, wl_surface, wl_subcompositor and wl_subsurface): what was asked of each, what
-//! of it is pending, held and applied, and what a commit, a mode or the end of a link applies over whole trees.
+//! The surfaces of a client with the links between them (wayland.xml, wl_surface, wl_subcompositor
+//! and wl_subsurface). Begin with [`Surfaces`], then [`SurfaceStates`], each surface by itself.
+//! Where windows stand on the output is left to wl_scene, and what a client is told to wl_requests.
+//!
+//! It keeps what was asked of each surface, pending, held and applied. It says what a commit, a
+//! mode or the end of a link applies over whole trees.
 #![tactic(auto)]
 
 ghost use Rattle.wl_surface.specs.StateLaws.{CommitTakesAll};
@@ -29,7 +33,8 @@ pub use states::{MAX_SURFACES, SurfaceNo, SurfaceStates};
 pub use surfaces::Surfaces;
 pub use wl_links::Side;
 
-/// After a commit what is held is what was pending, and once the surface is applied that is what counts.
+/// After a commit the held state is what was pending, and once the surface is applied that is the
+/// applied state.
 pub fn commit_takes_all()
     ensures { CommitTakesAll }
 {}

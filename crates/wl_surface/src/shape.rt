@@ -7,8 +7,8 @@ ghost use Rattle.wl_surface.specs.Kept.{buffer_of, turned_height, turned_width};
 use crate::content::Attached;
 use wl_store::{Scale, Transform};
 
-/// How a surface shows its buffer: turned so, each of its points as a block of `scale` by `scale` points of the buffer, and how large it is then, in its own
-/// points.
+/// How a surface shows its buffer: its transform, its scale, and how large it is then, in its own
+/// points. Each of its points is a block of `scale` by `scale` points of the buffer.
 #[derive(Clone, Copy)]
 pub(crate) struct Shape {
     pub(crate) transform: Transform,
@@ -19,8 +19,9 @@ pub(crate) struct Shape {
     pub(crate) ghost height_fits: { h < 2 ^ 31 },
 }
 
-/// The shape of a surface with this buffer: the buffer's sides divided by the scale, and exchanged where the transform turns it; without a buffer it has no
-/// points (wayland.xml, wl_surface.set_buffer_scale, set_buffer_transform).
+/// The shape of a surface with this buffer (wayland.xml, wl_surface.set_buffer_scale,
+/// set_buffer_transform). Its sides are the buffer's divided by the scale, and exchanged if the
+/// transform turns it. Without a buffer it has no points.
 pub(crate) fn shape_of(buffer: &Option<Attached>, transform: Transform, scale: Scale) -> Shape
     ensures transform { result.transform ≡ transform }
     ensures scale { result.scale ≡ scale }

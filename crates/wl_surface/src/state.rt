@@ -18,8 +18,9 @@ use std::marker::Model;
 use wl_geom::{Rect, Region};
 use wl_store::{Scale, Transform};
 
-/// A surface's state in three records. A region that wasn't set since is that of the record below, so that a commit moves
-/// regions and takes no memory. It is seen as the values that it keeps.
+/// A surface's state in three records: pending, held and applied. A region that wasn't set since is
+/// that of the record below, so a commit moves regions and takes no memory. Contracts see it as the
+/// values that it keeps.
 #[derive(Drop)]
 pub struct SurfaceState<A: Allocator> {
     pending_buffer: Option<Attached>,
@@ -79,9 +80,11 @@ impl<A: Allocator> Model for SurfaceState<A> {
     } };
 }
 
-/// What counts of a surface: the buffer as it is attached, the surface's size in its own pixels (the sides of the buffer divided by the scale, and
-/// exchanged where the transform turns it; none without a buffer), how far the surface has moved, which points are opaque, and which take input: where
-/// no region says it, all.
+/// The applied state of a surface: the buffer as it is attached, how far the surface has moved, and
+/// its size in its own pixels. The size is the sides of the buffer divided by the scale, and
+/// exchanged if the transform turns it; without a buffer it is none.
+///
+/// It also has which points are opaque, and which take input: all, if no region says it.
 #[derive(Drop)]
 pub struct Current<'a, A: Allocator> {
     pub buffer: Option<Attached>,
@@ -94,7 +97,7 @@ pub struct Current<'a, A: Allocator> {
     pub input: Option<&'a Region<A>>,
 }
 
-/// Whether this is the buffer of that number.
+/// Whether this is the buffer of this number.
 fn is_buffer(number: BufferNo, buffer: &Option<Attached>) -> bool
     ensures { result ≡ names number (option_map buffer_of buffer.now) }
 {
@@ -159,8 +162,9 @@ impl<A: Allocator> SurfaceState<A> {
         self.pending_scale = scale;
     }
 
-    /// wl_surface.damage, of a rectangle of the surface's points. More than 1,024 rectangles of both kinds damage the whole surface, so no more than one
-    /// more is kept of each. Without memory nothing changes.
+    /// wl_surface.damage, of a rectangle of the surface's points. Of each kind 1,025 rectangles are
+    /// kept, since more than 1,024 of both damage the whole surface. Without memory nothing
+    /// changes.
     pub fn damage(&mut self, rect: Rect) -> Result<(), AllocError>
         ensures ok { OnOk result ((s : Asked) → StandsFor self.old s → StandsFor self.new (asking (Damage rect) s)) }
         ensures err { OnErr result (self.new ≡ self.old) }
@@ -171,7 +175,8 @@ impl<A: Allocator> SurfaceState<A> {
         Ok(())
     }
 
-    /// wl_surface.damage_buffer, of a rectangle of the buffer's points. As many are kept as of the surface's. Without memory nothing changes.
+    /// wl_surface.damage_buffer, of a rectangle of the buffer's points. As many are kept as of the
+    /// surface's. Without memory nothing changes.
     pub fn damage_buffer(&mut self, rect: Rect) -> Result<(), AllocError>
         ensures ok { OnOk result ((s : Asked) → StandsFor self.old s → StandsFor self.new (asking (DamageBuffer rect) s)) }
         ensures err { OnErr result (self.new ≡ self.old) }
@@ -213,7 +218,7 @@ impl<A: Allocator> SurfaceState<A> {
         self.pending_input = Some(None);
     }
 
-    /// The damage that is pending is held. Without memory nothing changes.
+    /// The pending damage becomes held. Without memory nothing changes.
     fn hold_damage(&mut self) -> Result<(), AllocError>
         ensures ok { OnOk result (self.new ≡ record self.old { held_damage = take 1025 (self.old.held_damage ++ self.old.pending_damage); pending_damage = []; held_buffer_damage = take 1025 (self.old.held_buffer_damage ++ self.old.pending_buffer_damage); pending_buffer_damage = [] }) }
         ensures err { OnErr result (self.new ≡ self.old) }
@@ -222,7 +227,7 @@ impl<A: Allocator> SurfaceState<A> {
             .add(&mut self.pending_damage, &mut self.pending_buffer_damage)
     }
 
-    /// The regions that are pending are held.
+    /// The pending regions become held.
     fn hold_regions(&mut self)
         ensures { self.new ≡ record self.old { held_opaque = option_or self.old.pending_opaque self.old.held_opaque; pending_opaque = None; held_input = option_or self.old.pending_input self.old.held_input; pending_input = None } }
     {
@@ -230,7 +235,7 @@ impl<A: Allocator> SurfaceState<A> {
         self.held_input = self.pending_input.take().or(self.held_input.take());
     }
 
-    /// The buffer, the transform, the scale and the offset that are pending are held.
+    /// The pending buffer, transform, scale and offset become held.
     fn hold_content(&mut self)
         ensures content { self.new ≡ record self.old { held_buffer = self.old.pending_buffer; held_transform = self.old.pending_transform; held_scale = self.old.pending_scale; pending_offset = None; held_offset = self.new.held_offset } }
         ensures offset { IsFarther self.old.held_offset self.old.pending_offset self.new.held_offset }
@@ -241,7 +246,7 @@ impl<A: Allocator> SurfaceState<A> {
         self.held_offset = self.held_offset.farther(self.pending_offset.take());
     }
 
-    /// wl_surface.commit: what is pending is held. Without memory nothing changes.
+    /// wl_surface.commit: the pending state becomes held. Without memory nothing changes.
     pub fn hold(&mut self) -> Result<(), AllocError>
         ensures ok { OnOk result ((s : Asked) → StandsFor self.old s → StandsFor self.new (asking Commit s)) }
         ensures err { OnErr result (self.new ≡ self.old) }
@@ -252,7 +257,7 @@ impl<A: Allocator> SurfaceState<A> {
         Ok(())
     }
 
-    /// The opaque region that is held is applied, if it was set.
+    /// The held opaque region is applied, if it was set.
     fn apply_opaque(&mut self)
         ensures { self.new ≡ record self.old { current_opaque = latest self.old.held_opaque self.old.current_opaque; held_opaque = None } }
     {
@@ -261,7 +266,7 @@ impl<A: Allocator> SurfaceState<A> {
         }
     }
 
-    /// The input region that is held is applied, if it was set.
+    /// The held input region is applied, if it was set.
     fn apply_input(&mut self)
         ensures { self.new ≡ record self.old { current_input = latest self.old.held_input self.old.current_input; held_input = None } }
     {
@@ -270,8 +275,8 @@ impl<A: Allocator> SurfaceState<A> {
         }
     }
 
-    /// What is held is applied. The damage that was held is given as rectangles of the surface, as large as it is then; more than 1,024 damage all of it.
-    /// It takes no memory.
+    /// Applies the held state. The answer is the held damage, as rectangles of the surface at its
+    /// new size; more than 1,024 damage all of it. It takes no memory.
     pub fn apply(&mut self, alloc: A) -> Vec<Rect, A>
         ensures stands { (s : Asked) → StandsFor self.old s → StandsFor self.new (applying s) }
         ensures damage { (s : Asked) → StandsFor self.old s
@@ -288,7 +293,8 @@ impl<A: Allocator> SurfaceState<A> {
         damage
     }
 
-    /// The role, for life, unless the surface has another one: then nothing changes. Whether it has this role now.
+    /// Gives the role, for life, unless the surface has another one; then nothing changes. The
+    /// answer is whether it has this role now.
     pub fn give_role(&mut self, role: Role) -> bool
         ensures given { MatchBool result (self.new ≡ record self.old { role = Some role }) (self.new ≡ self.old) }
         ensures refused { (result ≡ false) ↔ ((other : Role) × (self.old.role ≡ Some other) × (other ≢ role)) }
@@ -302,21 +308,21 @@ impl<A: Allocator> SurfaceState<A> {
         }
     }
 
-    /// Whether the buffer is what is held or applied.
+    /// Whether the buffer is held or applied.
     pub fn shows(&self, buffer: BufferNo) -> bool
         ensures { result ≡ kept_shows buffer self.now }
     {
         is_buffer(buffer, &self.current_buffer) || is_buffer(buffer, &self.held_buffer)
     }
 
-    /// Whether the buffer is what is pending, held or applied.
+    /// Whether the buffer is pending, held or applied.
     pub fn has(&self, buffer: BufferNo) -> bool
         ensures { result ≡ kept_has buffer self.now }
     {
         is_buffer(buffer, &self.pending_buffer) || self.shows(buffer)
     }
 
-    /// What counts.
+    /// The applied state.
     pub fn current(&self) -> Current<'_, A>
         ensures stands { (s : Asked) → StandsFor self.now s → IsCurrent result s.history }
         ensures kept { counting_in result ≡ counting_of self.now }
@@ -338,14 +344,15 @@ impl<A: Allocator> SurfaceState<A> {
         }
     }
 
-    /// The buffer that is pending.
+    /// The pending buffer.
     pub fn pending_buffer(&self) -> Option<Attached>
         ensures { result ≡ self.now.pending_buffer }
     {
         self.pending_buffer
     }
 
-    /// Whether the sides of the buffer that is pending are multiples of the scale that is pending. Without a buffer they are.
+    /// Whether the sides of the pending buffer are multiples of the pending scale. Without a buffer
+    /// they are.
     pub fn is_whole(&self) -> bool
         ensures { (s : Asked) → StandsFor self.now s → result ≡ is_whole (pending s.history).buffer (pending s.history).scale }
     {
@@ -363,7 +370,7 @@ impl<A: Allocator> SurfaceState<A> {
         [self.pending_buffer, self.held_buffer, self.current_buffer]
     }
 
-    /// Whether there is a buffer pending, held or applied.
+    /// Whether a buffer is pending, held or applied.
     pub fn has_content(&self) -> bool
         ensures { result ≡ (is_some self.now.pending_buffer || (is_some self.now.held_buffer || is_some self.now.current_buffer)) }
     {

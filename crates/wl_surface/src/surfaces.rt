@@ -89,7 +89,7 @@ impl<A: Allocator + Copy> Surfaces<A> {
         self.states.give_role(child, Role::Subsurface)
     }
 
-    /// Whether a surface has another role than that of a subsurface, or a link that lives.
+    /// Whether a surface has a role other than that of a subsurface, or a living link.
     fn is_taken(&self, child: SurfaceNo) -> bool
         ensures taken { (all : Asked) → Stand self.now.states self.now.family all → result ≡ is_taken all child }
         ensures free { result ≡ false → links_in self.now.family child ≡ None }
@@ -97,8 +97,9 @@ impl<A: Allocator + Copy> Surfaces<A> {
         is_other_role(self.states.role(child)) || self.family.link(child).is_some()
     }
 
-    /// wl_subsurface.set_position: once the parent is committed and applied, the child's upper left corner is so many pixels right and down
-    /// from the parent's. Nothing changes where the child has no link, nor without memory.
+    /// wl_subsurface.set_position: sets the place of the child's upper left corner, in pixels right
+    /// and down from the parent's. It counts once the parent is committed and applied. Nothing
+    /// changes without a link, nor without memory.
     pub fn set_position(&mut self, child: SurfaceNo, x: i32, y: i32) -> Result<(), SurfaceError>
         ensures ok { OnOk result ((all : Asked) (number : ℕ) (link : Link) → IsLink all number child link → Stand self.old.states self.old.family all
             → Stand self.new.states self.new.family (with_change link.parent (asking (SetPosition number x y)) all)) }
@@ -114,12 +115,14 @@ impl<A: Allocator + Copy> Surfaces<A> {
         Ok(())
     }
 
-    /// wl_subsurface.place_above and place_below: once the parent is committed and applied, the child stands right above or right below a
-    /// sibling, or the parent. Nothing changes where the child has no link.
+    /// wl_subsurface.place_above and place_below: the child stands right above or right below a
+    /// sibling or the parent. It counts once the parent is committed and applied. Without a link
+    /// nothing changes.
     ///
     /// # Errors
     ///
-    /// `NotSibling` where the other surface is neither the parent nor another child of it, or else `Memory`. Neither changes anything.
+    /// `NotSibling` if the other surface is neither the parent nor another child of it, else
+    /// `Memory`. Neither changes anything.
     pub fn place(
         &mut self,
         child: SurfaceNo,
@@ -172,7 +175,8 @@ impl<A: Allocator + Copy> Surfaces<A> {
         self.place(child, sibling, Side::Below)
     }
 
-    /// wl_subsurface.set_sync: the child's commits are held until its parent is applied. Nothing changes where it has no link.
+    /// wl_subsurface.set_sync: the child's commits are held until its parent is applied. Without a
+    /// link nothing changes.
     pub fn set_sync(&mut self, child: SurfaceNo)
         ensures stand { (all : Asked) (number : ℕ) (link : Link) → IsLink all number child link → Stand self.old.states self.old.family all
             → Stand self.new.states self.new.family (synchronised_in number all) }

@@ -36,7 +36,7 @@ pub(crate) fn below<A: Allocator + Copy>(
     Ok(below)
 }
 
-/// The buffer, if there is one, behind the others.
+/// Appends the buffer, if there is one.
 fn add_buffer<A: Allocator>(
     buffers: &mut Vec<Attached, A>,
     buffer: Option<Attached>,
@@ -50,7 +50,7 @@ fn add_buffer<A: Allocator>(
     Ok(())
 }
 
-/// The buffers that these surfaces have applied and held, as they were attached.
+/// The applied and held buffers of these surfaces, as they were attached.
 pub(crate) fn shown_of<A: Allocator + Copy>(
     surfaces: &SurfaceStates<A>,
     numbers: &[SurfaceNo],

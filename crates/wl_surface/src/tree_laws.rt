@@ -1,47 +1,51 @@
-//! The laws of trees of surfaces: what it is to apply a surface with its children, and that what is kept of how surfaces hang together says the
-//! same as the definitions (wayland.xml, wl_subcompositor and wl_subsurface). Each law is a function that promises it.
+//! The laws of trees of surfaces (wayland.xml, wl_subcompositor and wl_subsurface). They say what
+//! applying a surface with its children is, and that the links kept agree with the definitions.
+//! Each law is a function that promises it.
 
 ghost use Rattle.wl_surface.specs.Stacks.{StacksFollow};
 ghost use Rattle.wl_surface.specs.Hanging.{AppliesStack, AppliesTree, AsksAlone, CommitsStack, CreatesSurface, DestroysSurface, EndsLink, EndsLinks, JoinsChild, MovesChild, PlacesChild, RemovesSurface, SetsMode};
 ghost use Rattle.wl_surface.specs.TreeLaws.{AppliesDescendants, HasOneRoot, HaveSameDepth, HaveSameDescent, HaveSameHeight, HaveSameModes, HaveSameRefusals};
 
-/// To apply a surface is to apply it and each surface that descends from it, once, and no other, where each child has one link that lives.
+/// If each child has one living link, applying a surface applies it and each of its descendants,
+/// once, and no other.
 pub fn applies_descendants()
     ensures { AppliesDescendants }
 {}
 
-/// A surface stands as deep by the links that are kept as by definition.
+/// A surface stands as deep by the links kept as by definition.
 pub fn have_same_depth()
     ensures { HaveSameDepth }
 {}
 
-/// A surface descends from another by the links that are kept as by definition.
+/// A surface descends from another by the links kept exactly as by definition.
 pub fn have_same_descent()
     ensures { HaveSameDescent }
 {}
 
-/// As many levels stand below a surface by the links that are kept as by definition.
+/// As many levels stand below a surface by the links kept as by definition.
 pub fn have_same_height()
     ensures { HaveSameHeight }
 {}
 
-/// A child is refused by the links that are kept exactly where it is by definition: as too deep, and as one that its parent descends from.
+/// A child is refused by the links kept exactly as by definition: as too deep, and as one that its
+/// parent descends from.
 pub fn have_same_refusals()
     ensures { HaveSameRefusals }
 {}
 
-/// A surface behaves synchronised by the links that are kept exactly where it does by definition.
+/// A surface behaves synchronised by the links kept exactly as by definition.
 pub fn have_same_modes()
     ensures { HaveSameModes }
 {}
 
-/// The surface that is reached from one by the links that are kept, from child to parent, is the only root by definition from which that one
-/// descends, where no surface stands deeper than 16.
+/// If no surface stands deeper than 16, the root found by the links kept, from child to parent, is
+/// the only root by definition from which the surface descends.
 pub fn has_one_root()
     ensures { HasOneRoot }
 {}
 
-/// What each request of a surface makes of the stack of its children, and the end of a link, is what is done to the stack that is kept.
+/// Each request of a surface, and the end of a link, does to the stack kept what it does to the
+/// stack of its children.
 pub fn stacks_follow()
     ensures { StacksFollow }
 {}
@@ -51,22 +55,23 @@ pub fn asks_alone()
     ensures { AsksAlone }
 {}
 
-/// A commit makes what is pending of the stack of a surface held.
+/// A commit makes the pending stack of the surface the held one.
 pub fn commits_stack()
     ensures { CommitsStack }
 {}
 
-/// To apply a surface makes what is held of its stack count.
+/// Applying a surface makes its held stack the applied one.
 pub fn applies_stack()
     ensures { AppliesStack }
 {}
 
-/// A position that is asked is that of the child in what is pending of its parent.
+/// A position that is asked is that of the child in the parent's pending stack.
 pub fn moves_child()
     ensures { MovesChild }
 {}
 
-/// A child that is placed above or below its parent or another child of it is placed so in what is pending of the parent.
+/// A child that is placed above or below its parent or another child of it stands so in the
+/// parent's pending stack.
 pub fn places_child()
     ensures { PlacesChild }
 {}
@@ -76,17 +81,17 @@ pub fn sets_mode()
     ensures { SetsMode }
 {}
 
-/// Once a link has ended, its child is in none of the stacks of what was its parent.
+/// Once a link has ended, its child is in none of the stacks of its former parent.
 pub fn ends_link()
     ensures { EndsLink }
 {}
 
-/// A child that is joined is synchronised, and topmost in what is pending of its parent.
+/// A child that is joined is synchronised, and topmost in the parent's pending stack.
 pub fn joins_child()
     ensures { JoinsChild }
 {}
 
-/// To apply a surface makes what is held count of the stacks of it and of each surface that descends from it.
+/// Applying a surface makes the held stacks of it and of each of its descendants the applied ones.
 pub fn applies_tree()
     ensures { AppliesTree }
 {}
@@ -96,17 +101,18 @@ pub fn creates_surface()
     ensures { CreatesSurface }
 {}
 
-/// A surface goes that has no link to its parent and none to a child.
+/// Once a surface without links is gone, what is kept stands for the others.
 pub fn removes_surface()
     ensures { RemovesSurface }
 {}
 
-/// As a surface ends with its links, each surface that descends from it is applied, once, and no other.
+/// When a surface ends with its links, each of its descendants is applied, once, and no other.
 pub fn ends_links()
     ensures { EndsLinks }
 {}
 
-/// A surface ends with its links: what is held counts of the stacks of each other surface that descended from it.
+/// When a surface ends with its links, the held stacks of its former descendants become the applied
+/// ones.
 pub fn destroys_surface()
     ensures { DestroysSurface }
 {}

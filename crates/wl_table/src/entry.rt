@@ -1,30 +1,30 @@
-//! What is held under an id.
+//! The object under an id.
 
 use std::alloc::{AllocError, AllocFailed};
 use thiserror::Error;
 use wl_proto::Interface;
 
-/// What is held under an id.
+/// The object under an id.
 #[derive(Clone, Copy, Debug, PartialEq, Eq)]
 pub struct Entry {
     /// The interface of the object.
     pub interface: Interface,
-    /// The version that it was bound at, or that of the object that made it.
+    /// Its version: the one that it was bound at, or that of the object that made it.
     pub version: u32,
-    /// The place of what it stands for, among those of its interface.
+    /// The number of what it stands for, among those of its interface.
     pub target: usize,
 }
 
-/// Why an object can't be held.
+/// Why an object isn't entered.
 #[derive(Clone, Copy, Debug, PartialEq, Eq, Error)]
 pub enum TableError {
     /// The id is 0 or above 0xfeffffff.
     #[error("no id of a client's object")]
     BadId = 1,
-    /// An object is held under the id.
+    /// Another object has the id.
     #[error("the id is in use")]
     InUse = 2,
-    /// 8,192 objects are held.
+    /// There are 8,192 objects already.
     #[error("too many objects")]
     TooMany = 3,
     /// There is no memory for it.

@@ -11,7 +11,7 @@ use std::marker::Model;
 use std::ops::Bound;
 use wl_proto::Interface;
 
-/// The greatest id that a client gives an object.
+/// The greatest id that a client may use.
 pub const MAX_ID: u32 = 0xfeff_ffff;
 
 /// How many objects a client may have at once, wl_display among them.
@@ -22,10 +22,10 @@ const LAST_PLACED: u32 = MAX_OBJECTS as u32;
 
 /// The objects of a client, by their ids; at most 8,192.
 ///
-/// It is seen as the list of what is held, each with its id; the ids rise.
+/// Contracts see it as the list of the objects, each with its id, in rising order.
 ///
-/// Clients mostly take the least ids that are free. So the ids up to 8,192 have places in a row, which reaches as far as
-/// the greatest of them that came. A map keeps what is held under the others.
+/// Clients mostly take the least free id. So the ids up to 8,192 have places in a row, which ends
+/// at the greatest of them that was ever used. A map keeps the objects under other ids.
 #[derive(Drop)]
 pub struct Objects<A: Allocator> {
     row: Vec<Option<Entry>, A>,
@@ -53,7 +53,7 @@ impl<A: Allocator> Objects<A> {
         self.count as usize
     }
 
-    /// What is held under an id.
+    /// The object under an id.
     pub fn get(&self, id: u32) -> Option<Entry>
         ensures { result ≡ entry_of self.now id }
     {
@@ -63,7 +63,7 @@ impl<A: Allocator> Objects<A> {
         }
     }
 
-    /// Sets the target of the object under an id, where there is one, and says whether there is.
+    /// Sets the target of the object under an id. The answer says whether there is one.
     pub fn set(&mut self, id: u32, target: usize) -> bool
         ensures found { result ≡ is_some (entry_of self.old id) }
         ensures set { HoldsAt self.old self.new id (option_map (with_target target) (entry_of self.old id)) }
@@ -83,7 +83,7 @@ impl<A: Allocator> Objects<A> {
         true
     }
 
-    /// Takes the object under an id out, and gives it.
+    /// Takes the object under an id out, and returns it.
     pub fn remove(&mut self, id: u32) -> Option<Entry>
         ensures found { result ≡ entry_of self.old id }
         ensures removed { HoldsAt self.old self.new id None }
@@ -102,7 +102,7 @@ impl<A: Allocator> Objects<A> {
         Some(entry)
     }
 
-    /// The least id above an id, of those under which an object is held.
+    /// The least id above an id that has an object.
     pub fn next_after(&self, id: u32) -> Option<u32>
         ensures { MatchOption result ((other : ℕ) → id < other → entry_of self.now other ≡ None) (λ next. (id < next) × IsSome (entry_of self.now next) × ((other : ℕ) → id < other → other < next → entry_of self.now other ≡ None)) }
     {
@@ -119,7 +119,7 @@ impl<A: Allocator> Objects<A> {
         Some(*next)
     }
 
-    /// The least id under which an object of this interface has this target, if there is one.
+    /// The least id of the objects with this interface and target, if there is one.
     pub fn find(&self, interface: Interface, target: usize) -> Option<u32>
         ensures { Finds self.now interface target result }
     {
@@ -149,13 +149,17 @@ impl<A: Allocator + Copy> Objects<A> {
         }
     }
 
-    /// Holds an object under an id.
+    /// Enters an object under an id.
     ///
     /// # Errors
     ///
-    /// The first of these: `BadId` where no client's object can have the id, `InUse` where it has an object,
-    /// `TooMany` where 8,192 are held, `Memory` where there is no memory for it. Each leaves the objects as
-    /// they were.
+    /// The first of these:
+    /// - `BadId`, if no client's object can have the id;
+    /// - `InUse`, if another object has it;
+    /// - `TooMany`, if there are 8,192;
+    /// - `Memory`, if there is no memory for it.
+    ///
+    /// Each leaves the objects as they were.
     pub fn insert(&mut self, id: u32, entry: Entry) -> Result<(), TableError>
         ensures ok { OnOk result (HoldsAt self.old self.new id (Some entry)) }
         ensures len { OnOk result (length self.new ≡ length self.old + 1) }
@@ -174,7 +178,7 @@ impl<A: Allocator + Copy> Objects<A> {
         self.put(id, entry)
     }
 
-    /// Holds an object under a free id, where there is room for it.
+    /// Enters an object under a free id, if there is room for it.
     fn put(&mut self, id: u32, entry: Entry) -> Result<(), TableError>
         requires id { 0 < id }
         requires free { entry_of self.old id ≡ None }
@@ -195,7 +199,7 @@ impl<A: Allocator + Copy> Objects<A> {
     }
 }
 
-/// Gives a row at least so many places; the new ones are empty.
+/// Gives a row at least this many places; the new ones are empty.
 fn extend<A: Allocator>(row: &mut Vec<Option<Entry>, A>, places: usize) -> Result<(), AllocError>
     ensures ok { OnOk result (row.new.items ≡ row.old.items ++ replicate (places - length row.old.items) None) }
     ensures err { OnErr result (row.new.items ≡ row.old.items) }
@@ -206,7 +210,7 @@ fn extend<A: Allocator>(row: &mut Vec<Option<Entry>, A>, places: usize) -> Resul
     row.resize(places, None)
 }
 
-/// The place of an id in a row of so many, where it has one.
+/// The place of an id in a row of this many places, if it has one.
 fn place_of(id: u32, places: usize) -> Option<usize>
     ensures some { IfSome result (λ place. (id ≡ place + 1) × (place < places)) }
     ensures none { IfNone result ((id ≡ 0) ⊎ (places < id)) }
@@ -217,7 +221,7 @@ fn place_of(id: u32, places: usize) -> Option<usize>
     Some(id as usize - 1)
 }
 
-/// The first place of a row, from this one on, at which an object stands.
+/// The first place of a row, from this one on, that has an object.
 fn first_held(row: &[Option<Entry>], from: usize) -> Option<usize>
     ensures some { IfSome result (λ place. (from ≤ place) × (place < length row.now) × IsSome (slice_index_or row.now place None) × ((other : ℕ) → from ≤ other → other < place → slice_index_or row.now other None ≡ None)) }
     ensures none { IfNone result ((other : ℕ) → from ≤ other → slice_index_or row.now other None ≡ None) }
@@ -230,7 +234,7 @@ fn first_held(row: &[Option<Entry>], from: usize) -> Option<usize>
     None
 }
 
-/// Whether an object is there that is of this interface and has this target.
+/// Whether there is an object, with this interface and target.
 fn stands_for(entry: Option<Entry>, interface: Interface, target: usize) -> bool
     ensures { IsTrue result ↔ StandsFor entry interface target }
 {

@@ -1,4 +1,5 @@
-//! Ids in rising order, each once: so the wl_buffers of a client are told as they are released (wayland.xml, wl_buffer.release).
+//! Ids in rising order, each once. A client is told of its released wl_buffers in this order
+//! (wayland.xml, wl_buffer.release).
 
 ghost use Rattle.std.specs.List.Sorted.{IsStrictlyIncreasing};
 ghost use Rattle.std.specs.Prelude.{ℕ, ◌≡◌, ◌==◌, ◌||◌, OnErr, OnOk};

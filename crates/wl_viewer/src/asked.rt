@@ -8,7 +8,7 @@ use wl_recording::{is_blank, is_comment, next_word, number, pressed_of, signed};
 /// What a line of a viewer asks.
 #[derive(Clone, Copy, Debug, PartialEq, Eq)]
 pub enum Asked {
-    /// The pointer moves to this point of the output, in pixels from the left top corner.
+    /// The pointer moves to this point of the output, in pixels from the top left corner.
     Motion { x: i32, y: i32 },
     /// A button is pressed or released. `code` is the kernel's number of the button.
     Button { code: u32, pressed: bool },
@@ -18,12 +18,12 @@ pub enum Asked {
     Windows,
     /// A comment, or no words.
     Nothing,
-    /// No line of a viewer.
+    /// Not a line of a viewer.
     Bad,
 }
 
-/// What a line without its line feed asks: `motion X Y`, `button CODE 0` or `button CODE 1`, `sync N`, or `windows`, in words parted by
-/// spaces.
+/// What a line without its line feed asks: `motion X Y`, `button CODE 0` or `button CODE 1`, `sync
+/// N`, or `windows`, in words with spaces between.
 pub fn asked_of(text: &[u8]) -> Asked
     ensures { result ≡ asked_by text.now }
 {
@@ -46,7 +46,7 @@ pub fn asked_of(text: &[u8]) -> Asked
     }
 }
 
-/// The motion whose two words are the only ones of a text.
+/// The motion, if a text has exactly its two words.
 fn motion_in(text: &[u8]) -> Option<Asked>
     ensures { result ≡ motion_in text.now }
 {
@@ -67,7 +67,7 @@ fn motion_by(x: &[u8], y: &[u8]) -> Option<Asked>
     Some(Asked::Motion { x, y })
 }
 
-/// The button whose two words are the only ones of a text.
+/// The button, if a text has exactly its two words.
 fn button_in(text: &[u8]) -> Option<Asked>
     ensures { result ≡ button_in text.now }
 {
@@ -88,7 +88,7 @@ fn button_by(code: &[u8], pressed: &[u8]) -> Option<Asked>
     Some(Asked::Button { code, pressed })
 }
 
-/// The number that is the only word of a text.
+/// The number, if it is the only word of a text.
 fn sync_in(text: &[u8]) -> Option<Asked>
     ensures { result ≡ sync_in text.now }
 {

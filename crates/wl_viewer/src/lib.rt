@@ -1,5 +1,6 @@
-//! What a viewer of the output holds and is owed, without any socket: the lines that it sends, what it wasn't told yet, and the bytes that wait
-//! for it.
+//! What a viewer of the output holds and is owed, without any socket: the lines that it sends, what
+//! it wasn't told yet, and the bytes that wait for it. Begin with [`Viewer`]. Frames are left to
+//! wl_session, and sockets to wl_server.
 #![tactic(auto)]
 
 mod asked;

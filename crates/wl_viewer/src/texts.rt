@@ -28,35 +28,35 @@ pub struct WindowLine {
     pub h: u32,
 }
 
-/// The sides of the output are told.
+/// Writes the sides of the output, in pixels.
 pub(crate) fn write_greeting<W: Write>(width: u32, height: u32, writer: &mut W) -> io::Result<()>
     ensures { OnOk result (Appends (W.contents writer.old) (W.contents writer.new) (greeting width height)) }
 {
     write!(writer, "wlframe 1 {width} {height}\n")
 }
 
-/// An update of so many runs is told next.
+/// Writes that an update of this many runs follows.
 pub(crate) fn write_head<W: Write>(time: u32, count: usize, writer: &mut W) -> io::Result<()>
     ensures { OnOk result (Appends (W.contents writer.old) (W.contents writer.new) (frame_line time count)) }
 {
     write!(writer, "frame {time} {count}\n")
 }
 
-/// A sync is answered.
+/// Writes the answer to a sync.
 pub(crate) fn write_synced<W: Write>(number: u32, time: u32, writer: &mut W) -> io::Result<()>
     ensures { OnOk result (Appends (W.contents writer.old) (W.contents writer.new) (synced_line number time)) }
 {
     write!(writer, "synced {number} {time}\n")
 }
 
-/// So many windows are told of next.
+/// Writes that this many windows follow.
 pub(crate) fn write_count<W: Write>(count: usize, writer: &mut W) -> io::Result<()>
     ensures { OnOk result (Appends (W.contents writer.old) (W.contents writer.new) (count_line count)) }
 {
     write!(writer, "windows {count}\n")
 }
 
-/// A window is told of.
+/// Writes a window.
 pub(crate) fn write_window<W: Write>(line: &WindowLine, writer: &mut W) -> io::Result<()>
     ensures { OnOk result (Appends (W.contents writer.old) (W.contents writer.new) (window_line line.now)) }
 {
@@ -73,7 +73,8 @@ pub(crate) fn write_window<W: Write>(line: &WindowLine, writer: &mut W) -> io::R
     write!(writer, "{w} {h}\n")
 }
 
-/// Appends a run: its first column, its row and its width in pixels, in 4 bytes each with the least first, and then its pixels.
+/// Appends a run: its first column, its row and its width in pixels, in 4 bytes each with the least
+/// first, and then its pixels.
 pub(crate) fn append_run<A: Allocator>(
     out: &mut Vec<u8, A>,
     run: &Run,

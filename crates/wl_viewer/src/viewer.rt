@@ -17,14 +17,15 @@ use std::marker::Model;
 use wl_geom::Rect;
 use wl_session::{Damage, Framebuffer, Run, runs_of};
 
-/// The most bytes of a viewer's line, with its line feed.
+/// How many bytes a viewer's line may have, with its line feed.
 pub const LINE_LIMIT: usize = 64;
 
-/// The most buttons that a viewer holds down.
+/// How many buttons a viewer may hold down.
 pub const MOST_HELD: usize = 16;
 
-/// A viewer of an output: what it wasn't told yet, the line that it began, the buttons that it holds down, what it asked and wasn't answered, and
-/// the bytes that wait to be sent to it.
+/// A viewer of an output. It keeps what it wasn't told yet, the line that it began, and the buttons
+/// that it holds down. It also keeps what it asked and wasn't answered, and the bytes that wait to
+/// be sent to it.
 #[derive(Drop)]
 pub struct Viewer<A: Allocator> {
     width: u32,
@@ -35,9 +36,9 @@ pub struct Viewer<A: Allocator> {
     line: ArrayVec<u8, 63>,
     /// The buttons that it pressed and didn't release.
     held: ArrayVec<u32, MOST_HELD>,
-    /// Whether it sent a line that is none.
+    /// Whether it sent a bad line.
     is_bad: bool,
-    /// Whether it was told so, so that nothing else is told.
+    /// Whether it was told of a bad line, so nothing else is told.
     is_over: bool,
     /// The number of the sync that waits.
     sync: Option<u32>,
@@ -72,7 +73,8 @@ impl<A: Allocator + Copy> Viewer<A> {
     ghost use Rattle.wl_viewer.specs.Telling.{IsTold, Update, answered, count_line, ended, greeting, is_as_large, is_done, is_free, sync_text, told_windows, window_line};
     ghost use Rattle.wl_viewer.specs.View.{Heard};
 
-    /// A viewer that wasn't told anything yet, of an output with these sides in pixels: its greeting waits for it, and all points are untold.
+    /// A viewer of an output with these sides in pixels, which wasn't told anything yet: its
+    /// greeting waits for it, and all points are untold.
     pub fn new(alloc: A, width: u32, height: u32) -> Result<Viewer<A>, AllocError>
         requires wide { width ≤ 4096 }
         requires high { height ≤ 4096 }
@@ -105,8 +107,9 @@ impl<A: Allocator + Copy> Viewer<A> {
         })
     }
 
-    /// Takes a byte that the viewer sent, and answers what it asks: a byte that ends a line asks what the line asks, and any other asks nothing.
-    /// A line without a line feed among its first 64 bytes is bad. After a bad line nothing is taken.
+    /// Takes a byte that the viewer sent. A byte that ends a line asks what the line asks; any
+    /// other asks nothing. A line is bad without a line feed among its first 64 bytes. After a bad
+    /// line nothing is taken.
     pub fn take(&mut self, byte: u8) -> Asked
         ensures asked { result ≡ asked_after self.old.heard byte }
         ensures heard { self.new ≡ record self.old { heard = heard_after self.old.heard byte } }
@@ -124,7 +127,7 @@ impl<A: Allocator + Copy> Viewer<A> {
         }
     }
 
-    /// The line that was begun is whole, and asks this.
+    /// Ends the line that was begun, and answers what it asks.
     fn end_line(&mut self) -> Asked
         ensures asked { result ≡ asked_by self.old.heard.line }
         ensures heard { self.new ≡ record self.old { heard = without_line self.old.heard } }
@@ -134,7 +137,7 @@ impl<A: Allocator + Copy> Viewer<A> {
         asked
     }
 
-    /// Keeps what is asked, and answers it. A press where 16 buttons are held asks nothing.
+    /// Keeps what is asked, and answers it. A press asks nothing if 16 buttons are held.
     fn hear(&mut self, asked: Asked) -> Asked
         ensures asked { result ≡ granted asked self.old.heard }
         ensures heard { self.new ≡ record self.old { heard = kept asked self.old.heard } }
@@ -160,7 +163,7 @@ impl<A: Allocator + Copy> Viewer<A> {
         &self.held
     }
 
-    /// Whether the viewer sent a line that is none.
+    /// Whether the viewer sent a bad line.
     pub fn is_bad(&self) -> bool
         ensures { result ≡ self.now.heard.is_bad }
     {
@@ -204,8 +207,9 @@ impl<A: Allocator + Copy> Viewer<A> {
         join(&mut self.untold, damage, self.height);
     }
 
-    /// Where nothing waits to be sent, and no bad line was told of, makes one update of all that is untold, in the pixels of this frame, if anything is. True where nothing waited, so
-    /// that all is told.
+    /// Makes one update of all that is untold, if anything is, in the pixels of this frame. The
+    /// answer is false, and nothing changes, if something waits to be sent or a bad line was told
+    /// of. If it is true, all is told.
     ///
     /// Out of memory, a part of the update may wait.
     pub fn update(&mut self, frame: &Framebuffer<A>, time: u32) -> Result<bool, AllocError>
@@ -247,7 +251,7 @@ impl<A: Allocator + Copy> Viewer<A> {
         Ok(())
     }
 
-    /// Tells how many windows are shown, of which each is told next.
+    /// Tells how many windows are shown. Each of them is told next.
     pub fn tell_windows(&mut self, count: usize) -> Result<(), AllocError>
         ensures told { OnOk result (self.new ≡ record self.old { heard = told_windows self.old.heard; out = self.old.out ++ count_line count }) }
         ensures held { self.new.heard.held ≡ self.old.heard.held }
@@ -293,7 +297,7 @@ impl<A: Allocator + Copy> Viewer<A> {
         &self.out[self.sent..]
     }
 
-    /// So many of the bytes that wait were sent.
+    /// Drops this many of the bytes that wait, which were sent.
     pub fn sent(&mut self, count: usize)
         requires { count ≤ length self.old.out }
         ensures { self.new ≡ record self.old { out = drop count self.old.out } }
@@ -302,7 +306,7 @@ impl<A: Allocator + Copy> Viewer<A> {
     }
 }
 
-/// Keeps whether a button is held. False where it can't be.
+/// Keeps whether a button is held. The answer is false if it can't be.
 fn hold(held: &mut ArrayVec<u32, MOST_HELD>, code: u32, pressed: bool) -> bool
     ensures granted { result ≡ may_be pressed code held.old.items }
     ensures held { held.new.items ≡ held_after pressed code held.old.items }
@@ -335,7 +339,7 @@ fn release(held: &mut ArrayVec<u32, MOST_HELD>, code: u32)
     held.retain(|other| *other != code);
 }
 
-/// Adds the points of the one to the other; both have this height.
+/// Adds the points of `damage` to `untold`; both have this height.
 fn join<A: Allocator>(untold: &mut Damage<A>, damage: &Damage<A>, height: u32)
     requires wide { damage.now.width ≡ untold.old.width }
     requires high { damage.now.height ≡ untold.old.height }
@@ -349,7 +353,7 @@ fn join<A: Allocator>(untold: &mut Damage<A>, damage: &Damage<A>, height: u32)
     }
 }
 
-/// Adds the points of row `y` of the one to the other.
+/// Adds the points of row `y` of `damage` to `untold`.
 fn join_row<A: Allocator>(untold: &mut Damage<A>, damage: &Damage<A>, y: u32)
     requires row { y < damage.now.height }
     requires narrow { damage.now.width ≤ 4096 }
@@ -367,7 +371,7 @@ fn join_row<A: Allocator>(untold: &mut Damage<A>, damage: &Damage<A>, y: u32)
     }
 }
 
-/// So many points of row `y`, from column `x` on.
+/// The points of row `y` from column `x` on, `w` of them.
 fn rect_of(x: u32, y: u32, w: u32) -> Rect
     requires column { x ≤ 4096 }
     requires row { y ≤ 4096 }
@@ -397,7 +401,7 @@ fn append_update<A: Allocator>(
     Ok(())
 }
 
-/// Appends the line of an update of so many runs.
+/// Appends the line that announces an update of this many runs.
 fn append_head<A: Allocator>(
     out: &mut Vec<u8, A>,
     time: u32,

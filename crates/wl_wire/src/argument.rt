@@ -1,6 +1,6 @@
 //! Arguments to be written.
 
-/// A signed number of 24 bits before and 8 bits behind the point, as its 256-fold.
+/// A signed number of 24 bits before and 8 bits behind the point, times 256.
 #[derive(Clone, Copy, Debug, PartialEq, Eq)]
 pub struct Fixed(pub i32);
 

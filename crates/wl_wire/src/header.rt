@@ -3,7 +3,8 @@
 /// What stands at the front of a stream.
 #[derive(Clone, Copy, Debug, PartialEq, Eq)]
 pub enum Split {
-    /// A whole message: the object it is sent to, the opcode, and the size in bytes with the header.
+    /// A whole message: the object that it is sent to, the opcode, and the size in bytes with the
+    /// header.
     Message { object: u32, opcode: u16, size: u16 },
     /// Less than a header, or less than the message that the header begins.
     More,

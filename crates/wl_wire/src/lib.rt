@@ -1,8 +1,11 @@
-//! Messages on the wire (Wayland protocol, "Wire Format"): headers, arguments, and the bytes that spell them.
+//! Messages on the wire (Wayland protocol, "Wire Format"): headers, arguments, and the bytes that
+//! spell them. Begin with [`split`], which finds a message, then [`Args`], which reads one, and
+//! [`put`], which writes one. Which messages there are is left to wl_proto.
 //!
-//! A message is an object id, a word with the size in bytes (upper half, the header included) and the
-//! opcode (lower half), and the arguments. All numbers are little endian. Each argument takes whole
-//! words of four bytes; what fills up its last word is free when it is read and zero when it is written.
+//! A message is an object id, a word, and the arguments. The upper half of the word is the size in
+//! bytes, the header included; its lower half is the opcode. All numbers are little endian. Each
+//! argument takes whole words of four bytes. What fills up its last word is free when it is read
+//! and zero when it is written.
 #![tactic(auto)]
 
 ghost use Rattle.std.specs.Prelude.{◌≡◌};
@@ -22,7 +25,7 @@ pub use reading::Args;
 use reading::word_at;
 pub use writing::{message_size, put};
 
-/// Looks for the first message of a stream, of which these are the bytes received so far.
+/// Looks for the first message of a stream. `bytes` are what was received of it so far.
 ///
 /// A size that isn't allowed is told as soon as the header is there.
 pub fn split(bytes: &[u8]) -> Split

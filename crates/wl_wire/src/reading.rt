@@ -15,7 +15,8 @@ pub(crate) fn word_at(bytes: &[u8], at: usize) -> u32
     u32::from_le_bytes([bytes[at], bytes[at + 1], bytes[at + 2], bytes[at + 3]])
 }
 
-/// Reads the arguments of a message in turn. It is seen as the list of the bytes that are left.
+/// Reads the arguments of a message in turn. Contracts see it as the list of the bytes that are
+/// left.
 ///
 /// An error leaves it as it was.
 #[derive(Drop)]
@@ -70,7 +71,7 @@ impl<'a> Args<'a> {
         Ok(Fixed(number))
     }
 
-    /// Reads a string. What it gives lacks the final NUL; other NULs may be in it.
+    /// Reads a string. The result lacks the final NUL; other NULs may be in it.
     pub fn string(&mut self) -> Result<&'a [u8], ArgError>
         ensures exact { Reads AText (λ text. Text text.now) result self.old self.new }
         ensures spelled { IfOk result (λ text. Takes self.old (Text text.now) self.new) }

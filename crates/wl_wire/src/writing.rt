@@ -10,7 +10,7 @@ use std::alloc::{AllocError, Allocator};
 ///
 /// # Errors
 ///
-/// `TooLong` where it would have more than 65,532 bytes, `Memory` where there is no room for it. Either
+/// `TooLong` if it would have more than 65,532 bytes, `Memory` if there is no room for it. Either
 /// leaves the bytes as they were.
 pub fn put<A: Allocator>(
     out: &mut Vec<u8, A>,
@@ -117,7 +117,7 @@ fn padding(count: usize) -> usize
     (4 - count % 4) % 4
 }
 
-// The bytes of an argument, where there are no more than a message can have.
+// How many bytes an argument takes. `None` only if they are more than a message can have.
 fn arg_len(arg: &Arg) -> Option<usize>
     ensures some { IfSome result (λ n. (n ≡ length (arg_bytes arg.now)) × (n ≤ 65544)) }
     ensures none { IfNone result (65532 < length (arg_bytes arg.now)) }
@@ -139,7 +139,7 @@ fn counted_len(count: usize) -> Option<usize>
     Some(4 + count + padding(count))
 }
 
-/// The size of a message with its header in bytes, where it is allowed: at most 65,532.
+/// The size of a message in bytes, the header included. `None` if it is above 65,532.
 pub fn message_size(args: &[Arg]) -> Option<u16>
     ensures some { IfSome result (λ n. (n ≡ 8 + length (args_bytes args.now)) × (n ≤ 65532)) }
     ensures none { IfNone result (65532 < 8 + length (args_bytes args.now)) }

@@ -1,4 +1,6 @@
-//! The program wlframe: a Wayland compositor that plays recordings and serves clients.
+//! The program wlframe: a Wayland compositor that plays recordings and serves clients. It only
+//! takes its words, its input and its output from the process. All else is left to [`run_program`]
+//! of wl_program, where to begin reading.
 #![tactic(auto)]
 
 use std::io::{BufReader, BufWriter};

@@ -24,7 +24,7 @@ class Share:
     def file(self):
         """One file more: a pool's memory, or a side file."""
         if self.had_files >= self.files:
-            raise Excess(f"it has {self.files} pools and side files, and may have no more (--files)")
+            raise Excess(f"it has {self.files} pools and side files, which is the most of --files")
         self.had_files += 1
 
     def room(self, size):

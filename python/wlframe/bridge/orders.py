@@ -27,7 +27,7 @@ class Bad(Exception):
 def number(word: str, most: int, what: str) -> int:
     """A word as a number from 0 to the most."""
     if not (word.isascii() and word.isdigit() and len(word) < 12 and int(word) <= most):
-        raise Bad(f"{what} is a number from 0 to {most}, not {word[:20]}")
+        raise Bad(f"{what} has to be a number from 0 to {most}, not {word[:20]}")
     return int(word)
 
 
@@ -37,7 +37,7 @@ def string(text: str, what: str) -> str:
         found = json.loads(text)
         found.encode()
     except (ValueError, AttributeError):
-        raise Bad(f'{what} stands as JSON has a string, as in "hello"') from None
+        raise Bad(f'{what} has to be a JSON string, as "hello"') from None
     return found
 
 
@@ -56,7 +56,7 @@ class Orders:
         do = {"key": self.key, "sync": self.sync, "copy": self.copy, "paste": self.paste, "size": self.size, "focus": self.focus}
         do |= {"keymap": self.keymap, "layout": self.layout, "letters": self.letters}
         if name not in do:
-            raise Bad(f"no line begins with {name[:20]}")
+            raise Bad(f"{name[:20]} is no order")
         return do[name](rest)
 
     def keyboard(self) -> typing.Any:
@@ -72,20 +72,20 @@ class Orders:
         return ""
 
     def sync(self, rest: str) -> str:
-        count = number(rest, 0xFFFFFFFF, "what sync is to answer")
+        count = number(rest, 0xFFFFFFFF, "the number of a sync")
         until = time.monotonic() + PATIENCE
         for each in [it.client.posts.when_sent() for it in list(self.seat.clients.values())]:
             if not each.wait(max(until - time.monotonic(), 0)):
-                raise Bad("a client doesn't take what it is sent")
+                raise Bad("a client doesn't read its events")
         return f"synced {count}"
 
     def copy(self, rest: str) -> str:
-        self.seat.clipboard.set(Text(string(rest, "what is copied")))
+        self.seat.clipboard.set(Text(string(rest, "the text to copy")))
         return "copied"
 
     def paste(self, rest: str) -> str:
         if rest:
-            raise Bad("paste stands alone")
+            raise Bad("paste takes no words")
         selection = self.seat.clipboard.selection
         kind = next((it for it in WANTED if selection is not None and it in selection.types), None)
         return "pasted null" if kind is None else f"pasted {json.dumps(content(selection, kind))}"
@@ -93,24 +93,24 @@ class Orders:
     def size(self, rest: str) -> str:
         words = rest.split(" ")
         if len(words) != 4:
-            raise Bad("a size is of a client by its number and a surface by its id: size C S W H")
+            raise Bad("write size C S W H: the client by its number, its surface by its id, and two sides")
         client, surface = (number(it, 0xFFFFFFFF, "a client or a surface") for it in words[:2])
         width, height = (number(it, LARGEST, "a side") for it in words[2:])
         seated = self.seat.clients.get(client)
         if seated is None or surface not in seated.windows.toplevels():
-            raise Bad(f"client {client} has no toplevel whose surface is {surface}")
+            raise Bad(f"client {client} has no toplevel with the surface {surface}")
         seated.client.posts.add(lambda: seated.resize(surface, width, height))
         return f"sized {client} {surface}"
 
     def focus(self, rest: str) -> str:
         if rest:
-            raise Bad("focus stands alone")
+            raise Bad("focus takes no words")
         at = self.seat.focus.at
         return "focus none" if at is None else f"focus {at[0].client.number} {at[1]}"
 
     def keymap(self, rest: str) -> str:
         if rest:
-            raise Bad("keymap stands alone")
+            raise Bad("keymap takes no words")
         return f"keymap {json.dumps(self.keyboard().own.text())}"
 
     def layout(self, rest: str) -> str:
@@ -146,7 +146,7 @@ def content(selection: typing.Any, kind: str) -> str:
                 return found.decode("utf-8", "replace")
             if len(found) > MOST:
                 raise Bad("what was copied is too large")
-    raise Bad("the client doesn't give what it copied")
+    raise Bad("the client that copied doesn't send its text")
 
 
 def lines(near: socket.socket) -> typing.Iterator[str]:

@@ -36,7 +36,7 @@ def connect(path, seconds):
             if not isinstance(fault, (FileNotFoundError, ConnectionRefusedError)):
                 raise Fault(f"{path}: {fault.strerror or fault}") from None
             if time.monotonic() > until:
-                raise Fault(f"no server listens at {path}: start `wlframe serve --socket {path} ..` (--wait says for how long one is waited for)") from None
+                raise Fault(f"no server listens at {path}: start `wlframe serve --socket {path} ..` (--wait S waits longer for one)") from None
             time.sleep(AGAIN)
 
 
@@ -79,7 +79,7 @@ class Probe:
     def take_until(self, done, until):
         """Takes events that come, and answers whether the one that is waited for is among them."""
         if not select.select([self.far], [], [], max(until - time.monotonic(), 0))[0]:
-            raise Fault(f"what listens at {self.path} gives no answer: is it `wlframe serve`?")
+            raise Fault(f"what listens at {self.path} gave no answer in {PATIENCE} seconds: is it `wlframe serve`, or is the machine too busy?")
         data = self.far.recv(65536)
         if not data:
             raise ConnectionResetError
@@ -198,8 +198,8 @@ def probe(path, folder, seconds, most):
             way = way_found(asks, pipe, ranges, process, most)
             if way is None:
                 raise Fault(
-                    f"the server didn't read {file}: give both the same folder (--dir), run both as one user, and start both anew "
-                    "where another client or bridge has connected to the server before"
+                    f"the server didn't read {file}: give both the same folder (--dir) and the same user. "
+                    "If another client or bridge connected to the server before, start both anew"
                 )
             return asks, process, way
     except OSError as fault:

@@ -3,7 +3,7 @@
     tools/clients [--write FILE] [--pictures FOLDER] [--seconds S] [NAME ..]
 
 Those that are installed are tried, or of them those whose names are given. --write docs/CLIENTS.md writes that page, for which tools and toolkits are tried
-besides, if no names are given (tools/tests/tries.py and toolkits.py); without it the rows of its table are printed. --pictures keeps the last frame of each. A client runs for some
+besides, if no names are given (tools/tests/tries.py and toolkits.py), and clients are shown with their memory copied (twins.py); without it the rows of its table are printed. --pictures keeps the last frame of each. A client runs for some
 seconds (--seconds S: as many times longer). Each is a program of Debian 12, run by tools/run. Status 0: each client ran; 1: not all.
 """
 import argparse
@@ -156,6 +156,12 @@ TOOLKITS = """## Text and the clipboard
 
 An entry of each of these was typed into: {text}, whose letters the layout `us` lacks, and {other} in its place behind ctrl+a. That was copied, by ctrl+c behind ctrl+a,
 and pasted into an entry of each by ctrl+v. In foot the word was marked by a double click, and shift held besides. tools/tests/test_toolkits.py does some of it again.
+"""
+TWINS = """## Memory by links and ranges, and copied
+
+A client's memory is shown by links to it, of which the server reads the ranges that changed. Is that the same as where each committed buffer is copied whole
+(`--whole`)? Each client that shows something was a client of two displays at once, one of either kind, by tools/tests/twins.py: both get the same requests. About once
+a second it waits until both have shown all that it asked, and their pictures are compared, to the byte.
 """
 
 
@@ -321,7 +327,7 @@ def program_in_words():
 def tried():
     """The modules that try tools and toolkits, which lie beside the tests of the tools."""
     sys.path.insert(0, str(TOP / "tools" / "tests"))
-    return importlib.import_module("tries"), importlib.import_module("toolkits")
+    return [importlib.import_module(it) for it in ("tries", "toolkits", "twins")]
 
 
 def tools():
@@ -351,6 +357,17 @@ def toolkits():
     return [*lines, *(["", "Not tried: " + "; ".join(it.lacks() for it in missing) + "."] if missing else []), ""]
 
 
+def twins(listed):
+    """The page's lines of whether these clients are shown the same where their memory is copied."""
+    module = tried()[2]
+    found = [it for it in map(module.row_of, listed) if it.pictures]
+    wrong = [it for it in found if not it.is_same]
+    for each in found:
+        print(f"{each.client.shown}: {'the same' if each.is_same else 'otherwise'}, {each.compared} times", flush=True)
+    told = f"{len(found) - len(wrong)} of {len(found)} were shown the same each time, in {sum(it.compared for it in found)} comparisons of {sum(it.pictures for it in found)} pictures."
+    return [TWINS, told, "", *[f"- `{it.client.shown}` wasn't." for it in wrong], *([""] if wrong else [])]
+
+
 def page(outcomes, missing, more=()):
     """The page of all clients, with more lines behind."""
     lines = [HEAD, program_in_words(), "", f"{sum(it.runs for it in outcomes)} of {len(outcomes)} run.", ""]
@@ -365,23 +382,23 @@ def page(outcomes, missing, more=()):
 
 def main():
     parser = argparse.ArgumentParser(description="Tries real clients under wlframe, one after another.")
-    parser.add_argument("names", nargs="*", metavar="NAME", help="which (all that are installed)")
-    parser.add_argument("--write", metavar="FILE", help="the page to write")
-    parser.add_argument("--pictures", metavar="FOLDER", help="keep the last frame of each")
-    parser.add_argument("--seconds", type=float, default=1.0, metavar="S", help="let each run so many times as long (1)")
+    parser.add_argument("names", nargs="*", metavar="NAME", help="a client of the list (all that are installed)")
+    parser.add_argument("--write", metavar="FILE", help="write what came of it to this page")
+    parser.add_argument("--pictures", metavar="FOLDER", help="keep the last frame of each client there")
+    parser.add_argument("--seconds", type=float, default=1.0, metavar="S", help="let each client run so many times as long (1)")
     asked = parser.parse_args()
     if asked.pictures:
         os.makedirs(asked.pictures, exist_ok=True)
     known = read_clients()
     unknown = [name for name in asked.names if not any(name in it.command.split() for it in known)]
     if unknown:
-        parser.error(f"{unknown[0]}: the list has no such client; tools/run -- {unknown[0]} runs any")
+        parser.error(f"{unknown[0]} is no client of the list; `tools/run -- {unknown[0]}` runs any program")
     clients = [it for it in known if not asked.names or any(name in it.command.split() for name in asked.names)]
     outcomes = []
     for client in filter(is_installed, clients):
         outcomes.append(run(client, asked.seconds, asked.pictures))
         print(outcomes[-1].row(), flush=True)
     if asked.write:
-        pathlib.Path(asked.write).write_text(page(outcomes, [it for it in clients if not is_installed(it)], [] if asked.names else [*tools(), *toolkits()]), encoding="utf-8")
+        pathlib.Path(asked.write).write_text(page(outcomes, [it for it in clients if not is_installed(it)], [] if asked.names else [*tools(), *toolkits(), *twins(list(filter(is_installed, clients)))]), encoding="utf-8")
     print(f"{sum(it.runs for it in outcomes)} of {len(outcomes)} run", file=sys.stderr)
     return 0 if all(it.runs for it in outcomes) else 1

@@ -68,15 +68,15 @@ def main():
     parser = argparse.ArgumentParser(description="Compares two pictures, or two sequences of frames: PPM, PNG or folders of them.")
     parser.add_argument("first", metavar="A")
     parser.add_argument("second", metavar="B")
-    parser.add_argument("--tolerance", type=int, default=0, metavar="N", help="by how much red, green and blue may differ, 0 to 255 (0)")
-    parser.add_argument("--max-pixels", type=int, default=0, metavar="N", help="at how many pixels two frames may differ (0)")
-    parser.add_argument("--mask", type=box, action="append", default=[], metavar="X,Y,W,H", help="leaves a box out; it may be given several times")
-    parser.add_argument("--diff", metavar="FILE", help="a PNG to write: the first frame that differs, with the pixels that do in red")
+    parser.add_argument("--tolerance", type=int, default=0, metavar="N", help="let red, green and blue differ by so much, 0 to 255 (0)")
+    parser.add_argument("--max-pixels", type=int, default=0, metavar="N", help="let two frames differ at so many pixels (0)")
+    parser.add_argument("--mask", type=box, action="append", default=[], metavar="X,Y,W,H", help="leave this box out; may be given several times")
+    parser.add_argument("--diff", metavar="FILE", help="write the first frame that differs as a PNG, its differing pixels in red")
     asked = parser.parse_args()
     if not 0 <= asked.tolerance <= 255:
-        parser.error(f"--tolerance {asked.tolerance}: it is from 0 to 255")
+        parser.error(f"--tolerance {asked.tolerance}: give a number from 0 to 255")
     if asked.max_pixels < 0:
-        parser.error(f"--max-pixels {asked.max_pixels}: it is 0 or more")
+        parser.error(f"--max-pixels {asked.max_pixels}: give 0 or more")
     try:
         return compare(asked)
     except pictures.Unreadable as reason:

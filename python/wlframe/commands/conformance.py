@@ -3,10 +3,16 @@
     tools/conformance [--filter REGEX] [--jobs N] [--work FOLDER] [--write FILE] [--program FILE]
     tools/conformance --write docs/CONFORMANCE.md
 
-It builds tools/wlcs/module.c by gcc (Debian: gcc, libwayland-dev), and runs each test by itself, with a server and a bridge of its own: first as wlcs is, and where that neither
-passed nor was skipped once more with tools/wlcs/mend.c, which places windows and acknowledges configures where wlcs doesn't. What was found is kept in FOLDER/results.json (out/wlcs),
-so that a run that was ended goes on; --again forgets it. --write makes a page of it. Status 0: each test passed, was skipped or has its reason in tools/wlcs/classes.txt; 1: not so;
-2: it can't be run.
+It builds tools/wlcs/module.c by gcc (Debian: gcc, libwayland-dev), and runs each test by itself,
+with a server and a bridge of its own. A test that fails runs once more with tools/wlcs/mend.c,
+which places windows and acknowledges configures where wlcs doesn't.
+
+FOLDER/results.json keeps the results (out/wlcs), so a run that was ended goes on where it was.
+--again forgets them.
+
+    0    each test passed, was skipped, or has its reason in tools/wlcs/classes.txt
+    1    not so
+    2    the tests can't be run
 """
 import argparse
 import collections
@@ -191,12 +197,12 @@ def page(rows, program):
 
 def asked_of():
     parser = argparse.ArgumentParser(prog=NAME, description=__doc__, formatter_class=argparse.RawDescriptionHelpFormatter)
-    parser.add_argument("--filter", default="", metavar="REGEX", help="which tests (all)")
-    parser.add_argument("--jobs", type=int, default=2, metavar="N", help="how many side by side (2)")
-    parser.add_argument("--work", type=pathlib.Path, default=TOP / "out" / "wlcs", metavar="FOLDER", help="where runs and results are kept (out/wlcs)")
-    parser.add_argument("--again", action="store_true", help="forget what was found before")
-    parser.add_argument("--write", type=pathlib.Path, metavar="FILE", help="the page to write")
-    parser.add_argument("--program", metavar="FILE", help="the program wlframe")
+    parser.add_argument("--filter", default="", metavar="REGEX", help="run the tests whose names match (all)")
+    parser.add_argument("--jobs", type=int, default=2, metavar="N", help="run so many tests side by side (2)")
+    parser.add_argument("--work", type=pathlib.Path, default=TOP / "out" / "wlcs", metavar="FOLDER", help="keep runs and results there (out/wlcs)")
+    parser.add_argument("--again", action="store_true", help="forget earlier results")
+    parser.add_argument("--write", type=pathlib.Path, metavar="FILE", help="write the results as this page")
+    parser.add_argument("--program", metavar="FILE", help="the program wlframe (that of WLFRAME, or the built one)")
     return parser.parse_args(namespace=Asked())
 
 

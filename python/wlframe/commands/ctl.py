@@ -15,9 +15,16 @@
     wait-idle [--seconds S] [--ignore X,Y,W,H]                  waits until the picture stayed the same for so long (0.2)
     wait-window [--title TITLE] [--app-id NAME]                 waits until such a window is shown, and tells where
 
-Each takes --timeout S, the seconds that it waits at most (5; 30 for wait-idle): what points or types waits for a first window, or for the one that --window
-names, whose own pixels a click then counts in. PATH is the socket that `tools/run --control PATH` or `tools/display --control PATH` made; WLFRAME_VIEWER names it too, as it does
-for clients of such a run. Status 0: done, and the picture is complete. 1: it failed, and standard error says why. 2: the words are wrong. 124: time ran out.
+Each waits at most 5 seconds (wait-idle 30), or --timeout S. What points or types waits for a first
+window, or for the one that --window names. A click then counts in that window's own pixels.
+
+PATH is the socket of `tools/run --control PATH` or `tools/display --control PATH`. WLFRAME_VIEWER
+names it too, and is set for the clients of such a run.
+
+    0    done, and the picture is complete
+    1    it failed; standard error says why
+    2    the words are wrong
+    124  time ran out
 """
 import argparse
 import json
@@ -98,14 +105,14 @@ def ask(path, asked):
                     return {"fault": f"{path}: the display ended", "kind": "ServerEnded"}
                 data += piece
         except OSError as fault:
-            return {"fault": f"{path}: no display is there: {fault.strerror or fault}", "kind": "Failure"}
+            return {"fault": f"{path}: no display answers there: {fault.strerror or fault}", "kind": "Failure"}
     return json.loads(data)
 
 
 def write_text(text):
     """Writes what was copied, with no line's end behind it. The status."""
     if text is None:
-        print(f"{NAME}: no text is copied", file=sys.stderr)
+        print(f"{NAME}: nothing was copied, or no text", file=sys.stderr)
         return FAILED
     sys.stdout.write(text)
     return 0
@@ -116,7 +123,7 @@ def main():
     asked = vars(parser.parse_args())
     path = asked.pop("control") or os.environ.get(NAMED)
     if not path:
-        parser.error(f"which display? --control PATH names its socket, or {NAMED} in the environment")
+        parser.error(f"which display? Name its socket by --control PATH, or by {NAMED} in the environment")
     told = ask(path, request(asked))
     if "fault" in told:
         print(f"{NAME}: {told['fault']}", file=sys.stderr)

@@ -10,10 +10,13 @@ Once it is up it prints how clients find it, as lines that a shell takes:
     gtk4-demo &
     tools/ctl wait-window && tools/ctl shot shot.png
 
-Clients may take pictures of it and point, as grim, wlrctl and wayvnc do. With --view it starts wayvnc, and for browsers noVNC, on 127.0.0.1, and tells where on
-standard error; the first line of --password FILE is the password, and the user is wlframe.
+Clients may take pictures of it and point, as grim, wlrctl and wayvnc do.
 
-It ends at SIGTERM, SIGINT or SIGHUP with status 0, and with status 1 where something failed, which standard error says. Clients that others started are not ended.
+--view starts wayvnc, and noVNC for browsers, on 127.0.0.1. Standard error tells where. The password
+is the first line of --password FILE, and the user is wlframe.
+
+It ends with status 0 at SIGTERM, SIGINT or SIGHUP. It ends with status 1 where something failed,
+and standard error says what. It doesn't end clients that others started.
 """
 import argparse
 import os
@@ -41,17 +44,18 @@ def stop(*_):
 
 def asked_of():
     parser = argparse.ArgumentParser(prog=NAME, description=__doc__, formatter_class=argparse.RawDescriptionHelpFormatter)
-    parser.add_argument("--control", required=True, metavar="PATH", help="the socket for tools/ctl")
+    parser.add_argument("--control", required=True, metavar="PATH", help="make a socket there for tools/ctl")
     parser.add_argument("--size", type=size, default=(1024, 768), metavar="WxH", help="the sides in pixels (1024x768)")
     parser.add_argument("--rate", type=int, default=60, metavar="HZ", help="frames a second (60)")
-    for name, what in (("record", "a recording of all that is served"), ("trace", "each request and event in words"), ("program", "the program wlframe")):
-        parser.add_argument(f"--{name}", metavar="FILE", help=what)
-    parser.add_argument("--fullscreen", action="store_true", help="asks clients to fill the output")
-    parser.add_argument("--view", action="store_true", help="shows it to VNC viewers and browsers")
-    parser.add_argument("--password", metavar="FILE", help="the first line is the view's password")
+    parser.add_argument("--record", metavar="FILE", help="write a recording of all that is served")
+    parser.add_argument("--trace", metavar="FILE", help="write each request and event in words")
+    parser.add_argument("--program", metavar="FILE", help="the program wlframe (that of WLFRAME, or the built one)")
+    parser.add_argument("--fullscreen", action="store_true", help="ask clients to fill the output")
+    parser.add_argument("--view", action="store_true", help="show it to VNC viewers and browsers")
+    parser.add_argument("--password", metavar="FILE", help="take the view's password from its first line")
     asked = parser.parse_args()
     if asked.password and not asked.view:
-        parser.error("--password is for --view, which isn't given")
+        parser.error("--password needs --view")
     return asked
 
 

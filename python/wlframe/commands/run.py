@@ -4,28 +4,38 @@
     tools/run --size 320x280 --seconds 5 --png shot.png -- weston-simple-shm
 
     --size WxH        the output's sides in pixels, each from 1 to 4096 (1024x768)
-    --png FILE        the last frame; it is written while the client runs too, at most once a second
-    --crop            of that the client's windows alone, without the shadow around them
-    --frames FOLDER   each frame that differs from the one before, by its number: 0001.png and so on. Where the machine is too busy to take them all, some are left out
-    --film FILE       a film, which ffmpeg writes: film.mp4, film.webm or film.gif. It begins as the client starts, and lasts as long as the run
-    --report FILE     what the server tells: connections, frames with their damaged pixels, ends
-    --record FILE     a recording of all that was served, whose replay shows the same without the client
-    --seconds S       ends the client after so many seconds
-    --until-idle MS   ends the client once the picture stayed the same for so many milliseconds, after a first frame
-    --idle-limit S    ends the client where it wasn't idle within so many seconds, with status 123
-    --ignore X,Y,W,H  pixels in this box don't count for --until-idle, as those of a clock; it may be given several times
-    --pointer FILE    what the pointer does: lines `motion T X Y` and `button T CODE 0` or `1`
-    --control PATH    a socket by which tools/ctl points, waits and takes pictures while the client runs
-    --view            starts wayvnc, and for browsers noVNC, on 127.0.0.1: standard error tells where the display is found
-    --password FILE   the first line is the view's password, and its user is wlframe
-    --fullscreen      asks the client to fill the output
-    --trace FILE      each request and event in words
-    --program FILE    the program wlframe, where it isn't the one that ./wlframe built, nor in PATH (WLFRAME names one too)
+    --png FILE        write the last frame; while the client runs too, at most once a second
+    --crop            cut --png to the client's windows, without the shadow around them
+    --frames FOLDER   write each frame that differs from the one before: 0001.png and so on;
+                      a machine that is too busy leaves some out
+    --film FILE       write a film of the whole run by ffmpeg: film.mp4, film.webm or film.gif
+    --report FILE     write what the server tells: connections, frames with their damage, ends
+    --record FILE     write a recording of all that is served; its replay needs no client
+    --seconds S       end the client after so many seconds
+    --until-idle MS   end the client once a frame was shown, and then nothing changed for so many
+                      milliseconds
+    --idle-limit S    end the client if it isn't idle within so many seconds, with status 123
+    --ignore X,Y,W,H  leave this box out of --until-idle, as that of a clock; may be given several times
+    --pointer FILE    move the pointer by its lines `motion T X Y`, `button T CODE 0` and `.. 1`
+    --control PATH    make a socket, by which tools/ctl acts on the client while it runs
+    --view            show it by wayvnc, and to browsers by noVNC, on 127.0.0.1;
+                      standard error tells where
+    --password FILE   take the view's password from its first line; the user is wlframe
+    --fullscreen      ask the client to fill the output
+    --trace FILE      write each request and event in words
+    --program FILE    the program wlframe (that of WLFRAME, the built one, or the one in PATH)
 
-The server, tools/bridge and the client run in a folder of their own, of which nothing is left at the end, however this ends. Toolkits are told by their
-environment variables to use Wayland, to draw without a graphics card, and to let cursors not blink, where those aren't set. The status is the client's (128 and the
-signal's number where a signal ended it), 0 where it was idle, 123 where it wasn't in time, 124 where time ran out, 126 or 127 where it can't be started, 125 where
-something else failed, also where no frame was shown for --png: then standard error says what.
+The server, tools/bridge and the client run in a folder of their own. Nothing of it is left, however
+the run ends. Environment variables tell toolkits to use Wayland, to draw without a graphics card,
+and not to blink cursors. Those that are set already stay.
+
+The status is the client's own (128 and the signal's number where a signal ended it), or:
+
+    0         the client was idle (--until-idle)
+    123       it wasn't idle in time (--idle-limit)
+    124       time ran out (--seconds)
+    125       something failed, or no frame was shown for --png; standard error says what
+    126, 127  the client can't be started
 """
 import argparse
 import bisect
@@ -48,7 +58,7 @@ from wlframe.view import View
 
 NAME = os.path.basename(sys.argv[0])
 NOT_IDLE, TIME_OVER, FAILED, NOT_STARTED, NOT_FOUND = 123, 124, 125, 126, 127
-PARTING = 0.5  # seconds that the server has to see that the client left
+PARTING = 2.0  # seconds that the server has to see that the client left
 TICK = 0.1  # seconds between two looks at the clock
 LATE = 0.05  # seconds that the report may come behind a frame
 BEHIND = 0.1  # seconds between two looks at where the windows are
@@ -275,17 +285,17 @@ def check(parser, asked, rest):
     if rest:
         unknown = [it for it in rest if it.startswith("-")]
         if "--" not in sys.argv and not rest[0].startswith("-"):
-            parser.error(f"{rest[0]}: a client stands behind --, as in: -- {' '.join(rest)}")
-        parser.error(f"there is no option {unknown[0]}" if unknown else f"{rest[0]} stands before --, and is no option")
+            parser.error(f"put the client behind --, as in: -- {' '.join(rest)}")
+        parser.error(f"there is no option {unknown[0]}" if unknown else f"{rest[0]} is no option: put what belongs to the client behind --")
     try:
         asked.size = size(asked.size)
     except ValueError:
-        parser.error(f"--size {asked.size}: a size is two numbers from 1 to 4096, as 640x480")
+        parser.error(f"--size {asked.size}: give two numbers from 1 to 4096, as 640x480")
     if not asked.client:
-        parser.error("which client? It stands behind --, as in: -- weston-simple-shm")
+        parser.error("which client? Put it behind --, as in: -- weston-simple-shm")
     for option, needs in (("crop", "png"), ("idle_limit", "until_idle"), ("ignore", "until_idle"), ("password", "view")):
         if getattr(asked, option) and not getattr(asked, needs):
-            parser.error(f"--{option.replace('_', '-')} is for --{needs.replace('_', '-')}, which isn't given")
+            parser.error(f"--{option.replace('_', '-')} needs --{needs.replace('_', '-')}")
     if asked.pointer:
         check_pointer(parser, asked.pointer)
 
@@ -301,7 +311,7 @@ def check_pointer(parser, path):
     for at, line in enumerate(lines, 1):
         if not known.fullmatch(line):
             shown = line[:OFTEN].decode(errors="replace")
-            parser.error(f"--pointer {path}: line {at} is {shown!r}, and neither `motion T X Y` nor `button T CODE 0` or `1`")
+            parser.error(f"--pointer {path}: line {at} is {shown!r}. Write `motion T X Y`, `button T CODE 0` or `button T CODE 1`")
 
 
 def stop(kind, _frame):

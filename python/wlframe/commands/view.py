@@ -9,11 +9,16 @@ The display is the one that WAYLAND_DISPLAY names, of tools/display or of the br
     gtk4-demo &
     tools/view
 
-It prints where the display is found, which is on 127.0.0.1 alone unless --host names another address. That needs a password: the first line of a file, which VNC viewers
-and browsers ask for with the user wlframe. Viewers then go by TLS with a certificate that they don't know; browsers don't, so for them an SSH tunnel is better. Ports are
-the first that are free from 5900 and 6080 on. Who looks types by the layout us, or the one of --layout: other letters than it has aren't typed.
+It prints where the display is found: on 127.0.0.1 alone, or at the address of --host. Another
+address needs --password. VNC viewers and browsers ask for that password and the user wlframe.
 
-It ends with status 0 at SIGTERM, SIGINT or SIGHUP, and with 1 where something failed, as with the display.
+With a password VNC viewers connect by TLS, with a certificate that they don't know. Browsers don't
+use TLS: an SSH tunnel is safer for them.
+
+A viewer types by the layout us, or by that of --layout. Letters that the layout lacks aren't typed.
+
+It ends with status 0 at SIGTERM, SIGINT or SIGHUP, and with 1 where something failed or the display
+ended.
 """
 import argparse
 import os
@@ -38,11 +43,11 @@ def stop(*_):
 
 def asked_of():
     parser = argparse.ArgumentParser(prog=NAME, description=__doc__, formatter_class=argparse.RawDescriptionHelpFormatter)
-    parser.add_argument("--host", default="127.0.0.1", metavar="ADDRESS", help="where it listens (127.0.0.1)")
-    parser.add_argument("--port", type=int, metavar="N", help="for VNC viewers")
-    parser.add_argument("--page-port", type=int, metavar="N", help="for browsers")
-    parser.add_argument("--password", metavar="FILE", help="a file whose first line is the password")
-    parser.add_argument("--layout", metavar="NAME", help="the keyboard's of who looks, as xkb calls it: de, fr-bepo (us)")
+    parser.add_argument("--host", default="127.0.0.1", metavar="ADDRESS", help="listen at this address (127.0.0.1)")
+    parser.add_argument("--port", type=int, metavar="N", help="the port for VNC viewers (the first free one from 5900 on)")
+    parser.add_argument("--page-port", type=int, metavar="N", help="the port for browsers (the first free one from 6080 on)")
+    parser.add_argument("--password", metavar="FILE", help="take the password from its first line")
+    parser.add_argument("--layout", metavar="NAME", help="the layout of the viewer's keyboard, as xkb names it: de, fr-bepo (us)")
     return parser.parse_args()
 
 
@@ -58,7 +63,7 @@ def keep_up(viewed):
 def main():
     view = View(**vars(asked_of()))
     if not os.environ.get("WAYLAND_DISPLAY"):
-        print(f"{NAME}: which display? WAYLAND_DISPLAY names it, as tools/display tells", file=sys.stderr)
+        print(f"{NAME}: which display? Set WAYLAND_DISPLAY to it, as tools/display prints", file=sys.stderr)
         return 1
     for each in (signal.SIGTERM, signal.SIGINT, signal.SIGHUP):
         signal.signal(each, stop)

@@ -208,9 +208,9 @@ def read_all(names):
 
 def main():
     parser = argparse.ArgumentParser(description="Says recordings and reports of wlframe in the words of the protocol.")
-    parser.add_argument("files", nargs="*", metavar="FILE", help="recordings or reports (standard input)")
-    parser.add_argument("--recording", metavar="FILE", help="the recording that the report is of")
-    parser.add_argument("--labels", action="store_true", help="put its name before each argument")
+    parser.add_argument("files", nargs="*", metavar="FILE", help="a recording or a report (standard input)")
+    parser.add_argument("--recording", metavar="FILE", help="the recording of which the report is")
+    parser.add_argument("--labels", action="store_true", help="put the name of each argument before it")
     asked = parser.parse_args()
     try:
         recording = list(read_all([asked.recording])) if asked.recording else []

@@ -1,5 +1,6 @@
-//! What each client owns is in order wherever nobody points, with subsurfaces and with popups: one invariant, which each step
-//! keeps, and each message by itself. Each law is a function that does nothing and promises it.
+//! What each client owns is in order while nobody points, with subsurfaces and with popups. This is
+//! one invariant, which each step keeps, and each single message. Each law is a function that does
+//! nothing and promises it.
 
 ghost use Rattle.law_desktop.specs.InOrderLaws.{ClientsAreInOrder, DemandsKeepInOrder, EmptyIsInOrder, EndsKeepInOrder};
 ghost use Rattle.law_desktop.specs.InOrderLaws.{FramesKeepInOrder, InOrderIsSound, InOrderStays, MessagesKeepInOrder};
@@ -11,22 +12,23 @@ pub fn empty_is_in_order()
     ensures { EmptyIsInOrder }
 {}
 
-/// On a desktop in order a client that lives owns what it owns in order.
+/// On a desktop in order, all that a living client owns is in order.
 pub fn clients_are_in_order()
     ensures { ClientsAreInOrder }
 {}
 
-/// It is sound, so that no surface has two windows.
+/// On a desktop in order no surface has two windows.
 pub fn in_order_is_sound()
     ensures { InOrderIsSound }
 {}
 
-/// No two popups of such a client have one number, and none has one past that of the client's last request.
+/// No two popups of such a client have the same number, and none has one past that of the client's
+/// last request.
 pub fn popups_are_numbered()
     ensures { PopupsAreNumbered }
 {}
 
-/// In order of creation their numbers rise.
+/// The numbers of such a client's popups rise in order of creation.
 pub fn popups_rise()
     ensures { PopupsRise }
 {}
@@ -36,37 +38,38 @@ pub fn in_order_stays()
     ensures { InOrderStays }
 {}
 
-/// So does one message of a client.
+/// One message of a client leaves a desktop in order.
 pub fn messages_keep_in_order()
     ensures { MessagesKeepInOrder }
 {}
 
-/// So does what is kept of a client's stream before its messages are taken.
+/// Keeping a client's stream, before its messages are taken, leaves a desktop in order.
 pub fn pieces_keep_in_order()
     ensures { PiecesKeepInOrder }
 {}
 
-/// So does the end of a client.
+/// The end of a client leaves a desktop in order.
 pub fn ends_keep_in_order()
     ensures { EndsKeepInOrder }
 {}
 
-/// So does the frame that a client is told of.
+/// A frame that a client is told of leaves a desktop in order.
 pub fn frames_keep_in_order()
     ensures { FramesKeepInOrder }
 {}
 
-/// A client owns what it owns in order whatever else of its peer changes than its objects and buffers, and with more requests.
+/// What a client owns stays in order if other parts of its peer change than its objects and
+/// buffers, and if it makes more requests.
 pub fn peers_keep_in_order()
     ensures { PeersKeepInOrder }
 {}
 
-/// What an accepted message demands leaves a client what it owns in order.
+/// What a client owns stays in order after the demand of an accepted message.
 pub fn demands_keep_in_order()
     ensures { DemandsKeepInOrder }
 {}
 
-/// A client is told of a popup that is done by a grab and by the end of a toplevel, and by nothing else that is demanded.
+/// Only a grab and the end of a toplevel tell a client that a popup is done. No other demand does.
 pub fn others_dismiss_none()
     ensures { OthersDismissNone }
 {}

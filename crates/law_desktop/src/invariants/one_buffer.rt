@@ -1,5 +1,6 @@
-//! The number of a wl_buffer determines it: two buffers that a client attached to its surfaces are the same where they have one number, and
-//! so is a wl_buffer that it still has, whatever happened (wayland.xml, wl_buffer and wl_surface.attach). Each law is a function that
+//! The number of a wl_buffer determines it, whatever happened (wayland.xml, wl_buffer and
+//! wl_surface.attach). Two buffers of the same number that a client attached to its surfaces are
+//! the same. So is a wl_buffer of that number that it still has. Each law is a function that
 //! promises it.
 
 ghost use Rattle.law_desktop.specs.OneBuffer.{ArrivalHasOneBuffer};

@@ -1,21 +1,24 @@
-//! The laws of what a request of one tree of surfaces leaves as it was in the other trees: what was asked of their surfaces, and their
-//! windows (wayland.xml, wl_subcompositor and wl_subsurface). Each law is a function that promises it.
+//! The laws of what a request on one tree of surfaces leaves alone in the other trees (wayland.xml,
+//! wl_subcompositor and wl_subsurface): what was asked of their surfaces, and their windows. Each
+//! law is a function that promises it.
 
 ghost use Rattle.law_desktop.specs.TreeStepsLaws.{AllTreesStay, AppliesNothing, HasRoot, NoChildIsTop, OtherTreesStay, RootsApart, TreeStays};
 ghost use Rattle.law_desktop.specs.TreeRequests.{CommitKeepsOthers, DestructionKeepsOthers, EndKeepsOthers};
 ghost use Rattle.law_desktop.specs.TreeRequests.{LinkKeepsAll, ModeKeepsAll, ModeKeepsOthers, RequestKeepsAll, RoleKeepsAll};
 
-/// A tree of which what counts of each surface stays, and the child of each link that lives, shows the same windows.
+/// A tree shows the same windows if the applied state of each of its surfaces stays, and the child
+/// of each living link.
 pub fn tree_stays()
     ensures { TreeStays }
 {}
 
-/// Where what counts of each surface stays, and the child of each link, every tree shows the same windows.
+/// If the applied state of each surface stays, and the child of each link, every tree shows the
+/// same windows.
 pub fn all_trees_stay()
     ensures { AllTreesStay }
 {}
 
-/// Two surfaces without a parent from which the same surface descends are one.
+/// If the same surface descends from two surfaces without a parent, these are one.
 pub fn roots_apart()
     ensures { RootsApart }
 {}
@@ -25,27 +28,28 @@ pub fn has_root()
     ensures { HasRoot }
 {}
 
-/// A surface that no link which lives has as its child has no parent.
+/// A surface that is the child of no living link has no parent.
 pub fn no_child_is_top()
     ensures { NoChildIsTop }
 {}
 
-/// What keeps the surfaces that don't descend from one keeps each tree that this one is not in, and its windows.
+/// A change that keeps the surfaces which don't descend from one keeps each tree that this one
+/// isn't in, and its windows.
 pub fn other_trees_stay()
     ensures { OtherTreesStay }
 {}
 
-/// A commit keeps the surfaces that don't descend from the one that is committed.
+/// A commit keeps the surfaces that don't descend from the committed one.
 pub fn commit_keeps_others()
     ensures { CommitKeepsOthers }
 {}
 
-/// A new link changes nothing that counts.
+/// A new link changes no applied state.
 pub fn link_keeps_all()
     ensures { LinkKeepsAll }
 {}
 
-/// A request that is not applied changes nothing that counts.
+/// A request that isn't applied changes no applied state.
 pub fn request_keeps_all()
     ensures { RequestKeepsAll }
 {}
@@ -55,7 +59,7 @@ pub fn role_keeps_all()
     ensures { RoleKeepsAll }
 {}
 
-/// A mode by itself changes nothing that counts.
+/// A mode by itself changes no applied state.
 pub fn mode_keeps_all()
     ensures { ModeKeepsAll }
 {}
@@ -75,7 +79,7 @@ pub fn destruction_keeps_others()
     ensures { DestructionKeepsOthers }
 {}
 
-/// To a surface of which no more counts than before, no damage is applied.
+/// No damage is applied to a surface whose applied state stays.
 pub fn applies_nothing()
     ensures { AppliesNothing }
 {}

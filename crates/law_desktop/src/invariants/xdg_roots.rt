@@ -1,5 +1,6 @@
-//! The laws of which surfaces are subsurfaces, whatever happens (wayland.xml, wl_subcompositor and wl_subsurface; xdg-shell.xml,
-//! xdg_wm_base.get_xdg_surface). Each law is a function that promises it.
+//! The laws of which surfaces are subsurfaces, whatever happens (wayland.xml, wl_subcompositor and
+//! wl_subsurface; xdg-shell.xml, xdg_wm_base.get_xdg_surface). Each law is a function that promises
+//! it.
 
 ghost use Rattle.law_desktop.specs.Roots.{LinksAreApart, LinksHaveSubsurfaces};
 ghost use Rattle.law_desktop.specs.Roots.{SurfacesAreTied, XdgSurfacesAreRoots};
@@ -9,17 +10,18 @@ pub fn xdg_surfaces_are_roots()
     ensures { XdgSurfacesAreRoots }
 {}
 
-/// Each link that lives is that of a live wl_subsurface, which names the link's child.
+/// Each living link is that of a live wl_subsurface, which names the link's child.
 pub fn links_have_subsurfaces()
     ensures { LinksHaveSubsurfaces }
 {}
 
-/// No two links of a client have the same number, and no two that live the same child.
+/// No two links of a client have the same number, and no two living ones the same child.
 pub fn links_are_apart()
     ensures { LinksAreApart }
 {}
 
-/// Each link that lives is named by what was asked of its parent, which is there, and by nothing that was asked of another surface.
+/// Each living link is named by what was asked of its parent, which is there, and by nothing asked
+/// of another surface.
 pub fn surfaces_are_tied()
     ensures { SurfacesAreTied }
 {}

@@ -1,5 +1,6 @@
-//! The laws of what is told of the surfaces of a client by their numbers: it is the damage that is applied to the windows of each tree of
-//! them (wayland.xml, wl_surface.damage and wl_subsurface). Each law is a function that promises it.
+//! The laws of what is told of a client's surfaces by their numbers. It is the damage that is
+//! applied to the windows of each of their trees (wayland.xml, wl_surface.damage and
+//! wl_subsurface). Each law is a function that promises it.
 
 mod telling;
 

@@ -1,6 +1,6 @@
-//! The laws of windows under other names: what a client's surfaces are called makes no difference to the windows of a tree of surfaces, to
-//! what is told of them, and to what is marked where they change (wayland.xml, wl_surface and wl_subsurface). Each law is a function that
-//! promises it.
+//! The laws of windows under other names. The names of a client's surfaces make no difference to
+//! the windows of a tree of surfaces. They make none to what is told and marked of them either
+//! (wayland.xml, wl_surface and wl_subsurface). Each law is a function that promises it.
 
 mod marks;
 mod windows;

@@ -1,32 +1,38 @@
-//! The laws of what is told of surfaces: the damage that a call tells of is exactly the damage that it applies (wayland.xml, wl_surface.damage
-//! and wl_subsurface). Each law is a function that promises it.
+//! The laws of what is told of surfaces: the damage that a call tells of is exactly the damage that
+//! it applies (wayland.xml, wl_surface.damage and wl_subsurface). Each law is a function that
+//! promises it.
 
 ghost use Rattle.law_windows.specs.ToldLaws.{CommitTellsApplied, DesyncTellsApplied, EndTellsApplied, LinkEndTellsApplied, UnlinkTellsApplied};
 ghost use Rattle.law_windows.specs.ToldWindows.{BetweenIsApplied, TellsWindows};
 
 use std::alloc::Allocator;
 
-/// What a commit tells of each surface is the damage that it applies to it, and of one that it doesn't apply nothing.
+/// What a commit tells of each surface is the damage that it applies to it: nothing, if it doesn't
+/// apply the surface.
 pub fn commit_tells_applied<A: Allocator>()
     ensures { CommitTellsApplied A }
 {}
 
-/// What wl_subsurface.set_desync tells of each surface is the damage that it applies to it, where the link lives.
+/// What wl_subsurface.set_desync of a living link tells of each surface is the damage that it
+/// applies to it.
 pub fn desync_tells_applied<A: Allocator>()
     ensures { DesyncTellsApplied A }
 {}
 
-/// What is told of each surface as a link ends that lives is the damage that this applies to it (wl_subsurface.destroy).
+/// What is told of each surface when a living link ends is the damage that this applies to it
+/// (wl_subsurface.destroy).
 pub fn link_end_tells_applied<A: Allocator>()
     ensures { LinkEndTellsApplied A }
 {}
 
-/// So it is where the link is ended by its number, which no other link has (wl_subsurface.destroy).
+/// The same holds if the link is ended by its number, which no other link has
+/// (wl_subsurface.destroy).
 pub fn unlink_tells_applied<A: Allocator>()
     ensures { UnlinkTellsApplied A }
 {}
 
-/// What is told as a surface goes is the damage that this applies to the others, where none stands deeper than 16 (wl_surface.destroy).
+/// What is told when a surface goes is the damage that this applies to the others, if none stands
+/// deeper than 16 (wl_surface.destroy).
 pub fn end_tells_applied<A: Allocator>()
     ensures { EndTellsApplied A }
 {}

@@ -1,19 +1,20 @@
-//! The laws of the windows where popups of a client are dismissed (xdg-shell.xml, xdg_popup.popup_done). Each law is a function that
-//! promises it.
+//! The laws of the windows when popups of a client are dismissed (xdg-shell.xml,
+//! xdg_popup.popup_done). Each law is a function that promises it.
 
 ghost use Rattle.law_windows.specs.Grabs.Windows.{DismissedStaysShown, DismissedStaysWhole, DismissedWindowsGo};
 
-/// The windows of the trees of dismissed popups go, and all others stay as they are, where they are.
+/// The windows of the trees of dismissed popups go, and all others stay as they are, where they
+/// are.
 pub fn dismissed_windows_go()
     ensures { DismissedWindowsGo }
 {}
 
-/// Just the mapped toplevels stand still.
+/// Exactly the mapped toplevels still stand.
 pub fn dismissed_stays_shown()
     ensures { DismissedStaysShown }
 {}
 
-/// And toplevels, popups and subsurfaces make trees still.
+/// Toplevels, popups and subsurfaces still make trees.
 pub fn dismissed_stays_whole()
     ensures { DismissedStaysWhole }
 {}

@@ -1,4 +1,5 @@
-//! What a client sends is taken one message at a time, and its toplevels and their windows follow; a client ends, and goes.
+//! Takes what a client sends, one message at a time; its toplevels and their windows follow. A
+//! client may end, or go.
 
 ghost use Rattle.std.specs.Prelude.{ℕ, ◌≡◌, ◌<◌, ◌≤◌, ◌||◌, IfSome, List, None, Some, length, is_some, pos, true, false};
 ghost use Rattle.wl_scene.specs.Marking.{IsAsLarge};
@@ -33,7 +34,8 @@ use wl_scene::{Owned, parent_corner};
 use wl_shell::Shell;
 use wl_surface::{SurfaceNo, Surfaces};
 
-/// What a message that was taken asks of the pointer, unless it was refused, and whether it may have changed windows of a client that lives on.
+/// What a taken message asks of the pointer, unless it was refused, and whether it may have changed
+/// windows of a client that lives on.
 #[derive(Clone, Copy, Debug, PartialEq, Eq)]
 pub struct Taken {
     pub pointer: PointerAsked,
@@ -51,7 +53,7 @@ pub fn bare<A: Allocator + Copy>(alloc: A) -> Owned<A>
 }
 
 impl<A: Allocator + Copy> Screen<A> {
-    /// Where the client ended, nothing is left of what it owned.
+    /// If the client ended, clears all that it owned.
     pub(crate) fn clear(&mut self, resident: &mut Resident<A>, client: ClientNo, alloc: A)
         ensures clears { IsClearedBy resident.old.client.ended client resident.old resident.new (pile_of self.old) (pile_of self.new) }
         ensures damage { self.new.damage ≡ self.old.damage }
@@ -64,8 +66,8 @@ impl<A: Allocator + Copy> Screen<A> {
         }
     }
 
-    /// A message of a client that lives on: the toplevels and the windows of this one, if there is one, are as it leaves them, and what it
-    /// changes of them is marked.
+    /// Follows a message of a client that lives on. The toplevels, and the windows of this one, if
+    /// there is one, become as the message leaves them. What it changes of them is marked.
     fn follow(
         &mut self,
         resident: &Resident<A>,
@@ -82,8 +84,8 @@ impl<A: Allocator + Copy> Screen<A> {
         self.restack_windows(client, toplevel, outcome.stacking);
     }
 
-    /// A message by which the client ended: its windows are marked, with those that this toplevel, if there is one, had for a moment, and
-    /// nothing is left of what it owned.
+    /// Follows a message by which the client ended. Its windows are marked, and those that this
+    /// toplevel, if there is one, had for a moment. All that it owned is cleared.
     fn part(
         &mut self,
         resident: &mut Resident<A>,
@@ -105,7 +107,8 @@ impl<A: Allocator + Copy> Screen<A> {
         self.clear(resident, client, alloc);
     }
 
-    /// A message that touched no tree of surfaces: where the client ended by it, its windows are marked, and nothing is left of what it owned.
+    /// Follows a message that touched no tree of surfaces. If the client ended by it, its windows
+    /// are marked, and all that it owned is cleared.
     fn part_alone(&mut self, resident: &mut Resident<A>, client: ClientNo, alloc: A)
         ensures clears { IsClearedBy resident.old.client.ended client resident.old resident.new (pile_of self.old) (pile_of self.new) }
         ensures points { is_some resident.old.client.ended ≡ true → (x y : ℕ) → x < self.old.damage.width → y < self.old.damage.height
@@ -121,8 +124,8 @@ impl<A: Allocator + Copy> Screen<A> {
         self.clear(resident, client, alloc);
     }
 
-    /// What a popup is placed by where what is asked is to commit its surface or to place it anew: within the output, by where the window
-    /// geometry of its parent stands.
+    /// By what a popup is placed that this message commits or places anew: the output, and where
+    /// the window geometry of its parent stands.
     fn placing(&self, resident: &Resident<A>, client: ClientNo, asked: &Asked) -> Placing
         ensures { IsPlacedBy self.now client resident.now asked.now result }
     {
@@ -137,11 +140,16 @@ impl<A: Allocator + Copy> Screen<A> {
         }
     }
 
-    /// Takes the first whole message of a client that lives, which asks this, and answers what it asks of the pointer and whether it may have
-    /// changed windows, which takes the same time however many there are; None where there is no message. What it changes of the windows of a
-    /// toplevel is marked, tree by tree: the damage that it applied, where the windows of a tree stand as they did; else all of them, as they
-    /// were before and as they are after. Where the client ends by it, its windows are marked, and no more; so does one that asks for a
-    /// wl_pointer where there is no seat for that. A grab is allowed by what is handed in for that.
+    /// Takes the first whole message of a living client, which asks this. `None` if there is none.
+    /// The answer is what it asks of the pointer, and whether it may have changed windows. Finding
+    /// that takes the same time however many windows there are.
+    ///
+    /// What it changes of a toplevel's windows is marked, tree by tree. If the windows of a tree
+    /// stand as before, that is the damage applied; else all of them, as they were and as they are.
+    /// If the client ends, its windows are marked, and no others.
+    ///
+    /// A client that asks for a wl_pointer without a seat for it ends too. `grabbing` says by what
+    /// a grab is allowed.
     pub fn serve(
         &mut self,
         resident: &mut Resident<A>,
@@ -214,7 +222,8 @@ impl<A: Allocator + Copy> Screen<A> {
         })
     }
 
-    /// The client ends by this, where it lives, also where an event wasn't queued for it. Its windows are marked, and no more.
+    /// Ends the client for this cause, if it lives, also when an event wasn't queued for it. Only
+    /// its windows are marked.
     pub fn end(&mut self, resident: &mut Resident<A>, client: ClientNo, cause: Cause, alloc: A)
         ensures ends { (others : ℕ → ById ℕ) (base d : Desktop) (r : Plain) → IsSeated client others base resident.old (pile_of self.old) d r
             → (q : Plain) × IsSeated client others base resident.new (pile_of self.new) (become client r (ended_by r.peer.status cause r.peer) d) q }
@@ -233,7 +242,8 @@ impl<A: Allocator + Copy> Screen<A> {
         self.clear(resident, client, alloc);
     }
 
-    /// The client goes. True where it was alive. Its windows are marked then, and no more.
+    /// The client closed its connection. The answer is true if it was alive; then its windows are
+    /// marked, and no others.
     pub fn gone(&mut self, resident: &mut Resident<A>, client: ClientNo, alloc: A) -> bool
         ensures changes { IsChangedSo client IsLeft (Done.Gone result) resident.old resident.new (pile_of self.old) (pile_of self.new) }
         ensures marks { MarksOwn resident.old.client.ended client resident.old (pile_of self.old) self.old.damage self.new.damage }
@@ -247,7 +257,7 @@ impl<A: Allocator + Copy> Screen<A> {
     }
 }
 
-/// Bytes are put into a store of a client that lives.
+/// Puts bytes into a store of a living client.
 pub fn store<A: Allocator + Copy>(
     resident: &mut Resident<A>,
     store: StoreNo,
@@ -259,14 +269,15 @@ pub fn store<A: Allocator + Copy>(
     store_of(&mut resident.client, store, at, bytes)
 }
 
-/// So many unsent bytes were sent. False and unchanged where there are fewer.
+/// Drops this many unsent bytes, which were sent. If there are fewer, the answer is false and
+/// nothing changes.
 pub fn sent<A: Allocator + Copy>(resident: &mut Resident<A>, count: usize) -> bool
     ensures changes { (c : ℕ) (pile : Pile) → IsChangedSo c (IsSent count) (Done.Sent result) resident.old resident.new pile pile }
 {
     resident.client.sent(count)
 }
 
-/// Puts bytes into a store of a client that lives.
+/// Puts bytes into a store of a living client.
 fn store_of<A: Allocator + Copy>(
     client: &mut Client<A>,
     store: StoreNo,

@@ -1,4 +1,4 @@
-//! The frame callbacks of a client are answered.
+//! Answering the frame callbacks of a client.
 
 ghost use Rattle.std.specs.Prelude.{ℕ, ◌≡◌, None, Some, is_some, true};
 ghost use Rattle.spec_desktop.specs.Objects.{ById};
@@ -16,8 +16,9 @@ use std::alloc::Allocator;
 use wl_requests::Resident;
 
 impl<A: Allocator + Copy> Screen<A> {
-    /// A frame was shown at this time, in milliseconds: a client that lives is told that the callbacks that are due are done. Where it ends by
-    /// that, its windows are marked, and no more, and nothing is left of what it owned.
+    /// A frame was shown at this time, in milliseconds: tells a living client that its due
+    /// callbacks are done. If it ends by that, its windows are marked, and no others, and all that
+    /// it owned is cleared.
     pub fn tell_frames(&mut self, resident: &mut Resident<A>, client: ClientNo, time: u32, alloc: A)
         ensures tells { (others : ℕ → ById ℕ) (base d : Desktop) (r : Plain) → IsSeated client others base resident.old (pile_of self.old) d r → Ordered d
             → (e : Desktop) × (s : Plain) × FramesToldAt time client (Some r) d e × IsSeated client others base resident.new (pile_of self.new) e s }

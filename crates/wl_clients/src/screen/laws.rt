@@ -29,7 +29,7 @@ pub(crate) fn message_laws()
     rising_named();
 }
 
-/// So do those by which popups with a grab are dismissed.
+/// So do the laws by which popups with a grab are dismissed.
 pub(crate) fn release_laws()
     ensures { ReleaseLaws }
 {

@@ -26,7 +26,7 @@ fn changes_of<A: Allocator>(applied: &Option<Applied<A>>) -> &[Change<A>]
     }
 }
 
-/// All points of a window are marked, if it is this client's.
+/// Marks all points of a window, if it is this client's.
 fn mark_one<A: Allocator>(damage: &mut Damage<A>, stacked: &Stacked, client: ClientNo)
     ensures points { (x y : ℕ) → x < damage.old.width → y < damage.old.height
         → has damage.new x y ≡ (has damage.old x y || is_own_at client (pos x) (pos y) stacked.now) }
@@ -37,7 +37,7 @@ fn mark_one<A: Allocator>(damage: &mut Damage<A>, stacked: &Stacked, client: Cli
     }
 }
 
-/// All points of those of these windows are marked that are this client's.
+/// Marks all points of those of these windows that are this client's.
 fn mark_own<A: Allocator>(damage: &mut Damage<A>, windows: &[Stacked], client: ClientNo)
     ensures points { (x y : ℕ) → x < damage.old.width → y < damage.old.height
         → has damage.new x y ≡ (has damage.old x y || has_own client (pos x) (pos y) windows.now) }
@@ -48,7 +48,7 @@ fn mark_own<A: Allocator>(damage: &mut Damage<A>, windows: &[Stacked], client: C
     }
 }
 
-/// All points of a window are marked, if it is of the tree of this root of the client.
+/// Marks all points of a window, if it is of the tree of this root of the client.
 fn mark_rooted<A: Allocator>(
     damage: &mut Damage<A>,
     stacked: &Stacked,
@@ -64,7 +64,7 @@ fn mark_rooted<A: Allocator>(
     }
 }
 
-/// All points of those of these windows are marked that are of the tree of this root of the client.
+/// Marks all points of those of these windows that are of the tree of this root of the client.
 fn mark_all_rooted<A: Allocator>(
     damage: &mut Damage<A>,
     windows: &[Stacked],
@@ -80,7 +80,7 @@ fn mark_all_rooted<A: Allocator>(
     }
 }
 
-/// All points of these windows are marked.
+/// Marks all points of these windows.
 fn mark_kept<A: Allocator>(damage: &mut Damage<A>, windows: &[Stacked])
     ensures points { (x y : ℕ) → x < damage.old.width → y < damage.old.height
         → has damage.new x y ≡ (has damage.old x y || list_any (window_has (pos x) (pos y)) (map (λ s. s.window) windows.now)) }
@@ -92,7 +92,7 @@ fn mark_kept<A: Allocator>(damage: &mut Damage<A>, windows: &[Stacked])
 }
 
 impl<A: Allocator + Copy> Screen<A> {
-    /// All points of the windows of a client are marked.
+    /// Marks all points of the windows of a client.
     pub(crate) fn mark_client(&mut self, client: ClientNo)
         ensures points { (x y : ℕ) → x < self.old.damage.width → y < self.old.damage.height
             → has self.new.damage x y ≡ (has self.old.damage x y || has_own client (pos x) (pos y) self.old.stacked.windows) }
@@ -104,7 +104,7 @@ impl<A: Allocator + Copy> Screen<A> {
         mark_own(&mut self.damage, self.stacked.windows(), client);
     }
 
-    /// All points of the windows of the tree of this root of a client are marked.
+    /// Marks all points of the windows of the tree of this root of a client.
     pub(crate) fn mark_tree(&mut self, client: ClientNo, root: SurfaceNo)
         ensures points { (x y : ℕ) → x < self.old.damage.width → y < self.old.damage.height
             → has self.new.damage x y ≡ (has self.old.damage x y || tree_has client root (pos x) (pos y) self.old.stacked.windows) }
@@ -115,7 +115,7 @@ impl<A: Allocator + Copy> Screen<A> {
         mark_all_rooted(&mut self.damage, self.stacked.windows(), client, root);
     }
 
-    /// All points of the windows are marked that the toplevel has after a message.
+    /// Marks all points of the windows that the toplevel has after a message.
     pub(crate) fn mark_new(&mut self)
         ensures points { (x y : ℕ) → x < self.old.damage.width → y < self.old.damage.height
             → has self.new.damage x y ≡ (has self.old.damage x y || list_any (window_has (pos x) (pos y)) self.old.spare.is.items) }
@@ -126,8 +126,9 @@ impl<A: Allocator + Copy> Screen<A> {
         mark_windows(&mut self.damage, &self.spare.is);
     }
 
-    /// What a message changed of the windows of a toplevel is marked, tree by tree, by those before and after it and by what it applied to
-    /// surfaces (wayland.xml, wl_surface.damage and wl_subsurface; xdg-shell.xml, xdg_popup).
+    /// Marks what a message changed of a toplevel's windows, tree by tree (wayland.xml,
+    /// wl_surface.damage and wl_subsurface; xdg-shell.xml, xdg_popup). It goes by the windows
+    /// before and after, and by what the message applied to surfaces.
     fn mark_changed(&mut self, applied: &Option<Applied<A>>)
         ensures points { AreTogether self.old.spare.was.items → AreTogether self.old.spare.is.items
             → AddsPoints (marks_trees self.old.spare.was.items self.old.spare.is.items (changes_in applied.now)) self.old.damage self.new.damage }
@@ -140,7 +141,7 @@ impl<A: Allocator + Copy> Screen<A> {
         mark_trees(&mut self.damage, &self.spare.was, &self.spare.is, changes);
     }
 
-    /// All points of the windows are marked that are kept of this toplevel.
+    /// Marks all points of the windows that are kept of this toplevel.
     pub(crate) fn mark_gone(&mut self, client: ClientNo, toplevel: SurfaceNo)
         ensures points { (x y : ℕ) → x < self.old.damage.width → y < self.old.damage.height
             → has self.new.damage x y ≡ (has self.old.damage x y || list_any (window_has (pos x) (pos y)) (run_kept client (Some toplevel) self.old.stacked.windows)) }
@@ -152,7 +153,8 @@ impl<A: Allocator + Copy> Screen<A> {
         mark_kept(&mut self.damage, self.stacked.run(client, toplevel));
     }
 
-    /// What a message changes of the windows of this toplevel, if there is one, is marked: all of those that are kept of it, where it goes.
+    /// Marks what a message changes of this toplevel's windows, if there is one. If the toplevel
+    /// goes, that is all of those kept of it.
     pub(crate) fn mark_turned(
         &mut self,
         client: ClientNo,

@@ -1,4 +1,4 @@
-//! A toplevel is moved with its windows, those of its popups among them.
+//! Moves a toplevel with its windows and those of its popups.
 
 ghost use Rattle.std.specs.Prelude.{◌≡◌, ◌≤◌, ◌+ℤ◌, length};
 ghost use Rattle.wl_scene.specs.Marking.{IsAsLarge};
@@ -40,7 +40,7 @@ impl<A: Allocator + Copy> Moving<A> {
     }
 }
 
-/// Farther than from one coordinate to any other.
+/// Farther than any two coordinates are from each other.
 const FAR: i64 = 1 << 40;
 
 /// Where a surface is placed on the output, in pixels.
@@ -50,7 +50,7 @@ struct Spot {
     y: i32,
 }
 
-/// A coordinate in pixels, so far from where it was, and held within the bounds.
+/// A coordinate in pixels, moved by this much and held within the bounds.
 fn moved(from: i32, by: i64) -> i32
     ensures { result ≡ within_bounds (from +ℤ by) }
 {
@@ -60,7 +60,8 @@ fn moved(from: i32, by: i64) -> i32
     held(i64::from(from) + by)
 }
 
-/// What a move changed of the windows of a toplevel, by those before and after, is marked tree by tree. No damage is applied by it.
+/// Marks, tree by tree, what a move changed of a toplevel's windows, by those before and after. A
+/// move applies no damage.
 fn mark_moved<'a, A: Allocator>(damage: &'a mut Damage<A>, was: &[TreeWindow], is: &[TreeWindow])
     ensures points { MarksRuns A was.now is.now damage.old damage.new }
     ensures sides { IsAsLarge damage.old damage.new }
@@ -70,8 +71,9 @@ fn mark_moved<'a, A: Allocator>(damage: &'a mut Damage<A>, was: &[TreeWindow], i
 }
 
 impl<A: Allocator + Copy> Screen<A> {
-    /// A toplevel stands there with its popups, and their windows with them. Of these, which are no more than a client can have, those are marked
-    /// that the trees had and have which change by it.
+    /// Puts a toplevel at this place with its popups, and their windows with them. They are no more
+    /// than a client can have. Trees that change are marked, with the windows that they had and
+    /// have.
     fn put_run(&mut self, owned: &Owned<A>, client: ClientNo, toplevel: SurfaceNo, to: Spot)
         ensures standing { self.new.scene.standing ≡ moved_to client toplevel (record { x = to.x; y = to.y }) self.old.scene.standing }
         ensures next { self.new.scene.next ≡ self.old.scene.next }
@@ -104,9 +106,10 @@ impl<A: Allocator + Copy> Screen<A> {
         mark_moved(&mut self.damage, was.windows(), is.windows());
     }
 
-    /// This toplevel of a client, given by the number of its surface, stands so many pixels farther to the right and down, held within the bounds,
-    /// with its popups. Of their trees, those are marked that change, as they were and as they are then: not that of a popup whose place stays,
-    /// held within the bounds.
+    /// Moves this toplevel of a client, given by the number of its surface, this many pixels to the
+    /// right and down, with its popups. Its place is held within the bounds. Trees that change are
+    /// marked, as they were and as they are. A popup whose place stays, since it is held within the
+    /// bounds, isn't.
     pub fn move_tree(
         &mut self,
         resident: &Resident<A>,
@@ -120,7 +123,7 @@ impl<A: Allocator + Copy> Screen<A> {
         ensures most { MarksMovedMost client toplevel x y (opened_kept resident.now) self.old self.new }
         ensures sides { IsAsLarge self.old.damage self.new.damage }
     {
-        // What a move has to mark, and may, is told by this law.
+        // This law says what a move has to mark, and what it may.
         moves_are_marked::<A>();
         let surface = Surface {
             client,

@@ -1,4 +1,4 @@
-//! A toplevel comes to the top with its windows.
+//! Raises a toplevel with its windows.
 
 ghost use Rattle.std.specs.Prelude.{ℕ, ◌≡◌, ◌<◌, ◌||◌, Some, pos};
 ghost use Rattle.std.specs.List.{list_any};
@@ -38,7 +38,7 @@ fn is_topmost<A: Allocator>(scene: &Scene<A>, surface: Surface) -> bool
 }
 
 impl<A: Allocator + Copy> Screen<A> {
-    /// A toplevel comes to the top with its windows and those of its popups, and these are marked.
+    /// Brings the toplevel to the top with its windows and those of its popups, and marks these.
     fn bring_up(&mut self, client: ClientNo, toplevel: SurfaceNo)
         ensures standing { self.new.scene.standing ≡ raised client toplevel self.old.scene.standing }
         ensures next { self.new.scene.next ≡ self.old.scene.next }
@@ -56,8 +56,9 @@ impl<A: Allocator + Copy> Screen<A> {
         self.stacked.raise(client, toplevel);
     }
 
-    /// A press raises this toplevel of a client, given by the number of its surface: it comes to the top with its windows and those of its popups.
-    /// These are marked where it wasn't topmost, and nothing is where it was.
+    /// A press raises this toplevel of a client, given by the number of its surface. It comes to
+    /// the top with its windows and those of its popups. If it wasn't topmost, these are marked;
+    /// else nothing is.
     pub fn raise_tree(&mut self, client: ClientNo, toplevel: SurfaceNo)
         ensures raises { IsRaised client toplevel self.old self.new }
         ensures marks { MarksRaised client toplevel self.old self.new }

@@ -1,4 +1,4 @@
-//! The popups of a client with a grab are dismissed, and their windows go.
+//! Dismisses the popups of a client with a grab, and takes their windows out.
 
 ghost use Rattle.std.specs.Prelude.{ℕ, ◌≡◌, ◌<◌, ◌||◌, filter, find, pos};
 ghost use Rattle.std.specs.Option.{option_copied, option_map};
@@ -34,7 +34,7 @@ fn is_dismissed<A: Allocator>(stacked: &Stacked, client: ClientNo, shell: &Shell
     }
 }
 
-/// The lowest of these windows that is in such a tree.
+/// The lowest of these windows that is in the tree of such a popup.
 fn first_dismissed<'a, A: Allocator>(
     windows: &'a [Stacked],
     client: ClientNo,
@@ -47,7 +47,7 @@ fn first_dismissed<'a, A: Allocator>(
         .find(|stacked| is_dismissed(stacked, client, shell))
 }
 
-/// The root of its tree.
+/// The root of that window's tree.
 fn dismissed_root<A: Allocator>(
     windows: &[Stacked],
     client: ClientNo,
@@ -62,7 +62,7 @@ fn dismissed_root<A: Allocator>(
 }
 
 impl<A: Allocator + Copy> Screen<A> {
-    /// All points of the windows of a tree are marked, and they go.
+    /// Marks all points of the windows of a tree, and takes them out.
     fn remove_tree(&mut self, client: ClientNo, root: SurfaceNo)
         ensures windows { self.new.stacked.windows ≡ without_tree client root self.old.stacked.windows }
         ensures points { (x y : ℕ) → x < self.old.damage.width → y < self.old.damage.height
@@ -74,7 +74,7 @@ impl<A: Allocator + Copy> Screen<A> {
         self.stacked.remove_tree(client, root);
     }
 
-    /// The windows of a client that are in the trees of popups that were dismissed are marked, and go.
+    /// Marks the windows of a client that are in the trees of dismissed popups, and takes them out.
     fn remove_dismissed(&mut self, client: ClientNo, shell: &Shell<A>)
         ensures windows { self.new.stacked.windows ≡ filter (is_left client shell.now) self.old.stacked.windows }
         ensures points { (x y : ℕ) → x < self.old.damage.width → y < self.old.damage.height
@@ -87,9 +87,10 @@ impl<A: Allocator + Copy> Screen<A> {
         }
     }
 
-    /// The popups of a client with a grab are dismissed, with those that descend from them, the newest first, and the client is told of each
-    /// that it is done: until an event isn't queued, for which it is to end (xdg-shell.xml, xdg_popup.grab and xdg_popup.popup_done). Their
-    /// windows go, and are marked, and nothing else is.
+    /// Dismisses a client's popups with a grab, and their descendants, the newest first
+    /// (xdg-shell.xml, xdg_popup.grab and xdg_popup.popup_done). The client is told of each that it
+    /// is done. If an event isn't queued, it is to end for that, and is told nothing more. Only the
+    /// windows of these popups go and are marked.
     pub fn release_grabs(&mut self, resident: &mut Resident<A>, client: ClientNo)
         ensures releases { IsReleased client resident.old resident.new (pile_of self.old) (pile_of self.new) }
         ensures marks { MarksReleased client resident.old (pile_of self.old) self.old.damage self.new.damage }

@@ -1,4 +1,4 @@
-//! The roots of a toplevel's windows, for which there is always room.
+//! The roots of a toplevel's windows, with room for as many as there can be.
 
 ghost use Rattle.std.specs.Prelude.{ℕ, ◌≡◌, ◌≤◌, length, map};
 ghost use Rattle.wl_scene.specs.Roots.{HasRole, IsHeld, standing_at, told_root};
@@ -13,10 +13,11 @@ use std::marker::Model;
 use wl_scene::{Owned, RootPlace, add_roots};
 use wl_surface::{MAX_SURFACES, SurfaceNo};
 
-/// A toplevel and as many popups as a client may have surfaces.
+/// One toplevel, and as many popups as a client may have surfaces.
 const MOST_ROOTS: usize = MAX_SURFACES + 1;
 
-/// The roots of the windows of one toplevel, each with its place. There is room for as many as a client can have.
+/// The roots of the windows of one toplevel, each with its place. There is room for as many as a
+/// client can have.
 #[derive(Drop)]
 pub(crate) struct Roots<A: Allocator> {
     places: Vec<RootPlace, A>,
@@ -48,7 +49,8 @@ impl<A: Allocator + Copy> Roots<A> {
         &self.places
     }
 
-    /// The roots are those of a toplevel that stands there, in pixels of the output: its own, and those of its popups that are shown.
+    /// Finds the roots of a toplevel that stands there, in pixels of the output: its own, and those
+    /// of its popups that are shown.
     pub(crate) fn find(&mut self, owned: &Owned<A>, toplevel: SurfaceNo, x: i32, y: i32)
         ensures { (o : Owns) (client : ℕ) → IsHeld owned.now.surfaces.states owned.now.surfaces.family owned.now.shell o
             → AreRising (popups_of o.shell) → HasRole owned.now.shell toplevel → length o.shell ≤ 256

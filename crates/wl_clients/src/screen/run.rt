@@ -1,4 +1,4 @@
-//! The windows of a toplevel, for which there is always room.
+//! The windows of a toplevel, with room for as many as there can be.
 
 ghost use Rattle.std.specs.Prelude.{◌≡◌, ◌≤◌, length};
 ghost use Rattle.wl_clients.specs.Runs.{windows_told};
@@ -8,7 +8,8 @@ use std::marker::Model;
 use wl_scene::{Stacked, TreeWindow};
 use wl_surface::MAX_SURFACES;
 
-/// The windows that are stacked with one toplevel. There is room for as many as a client can have: each is of another of its surfaces.
+/// The windows stacked with one toplevel. There is room for as many as a client can have: each has
+/// a surface of its own.
 #[derive(Drop)]
 pub(crate) struct Run<A: Allocator> {
     windows: Vec<TreeWindow, A>,
@@ -40,7 +41,7 @@ impl<A: Allocator> Run<A> {
         &self.windows
     }
 
-    /// The windows are these, which are no more than a client can have.
+    /// Keeps these windows, which are no more than a client can have.
     pub(crate) fn keep(&mut self, windows: &[Stacked])
         ensures { length windows.now ≤ 256 → self.new ≡ windows_told windows.now }
     {

@@ -1,4 +1,5 @@
-//! What of the output the clients change: the toplevels and their windows, and which points are to be painted again.
+//! What clients change of the output: the toplevels and their windows, and which points are to be
+//! painted again.
 
 ghost use Rattle.std.specs.Prelude.{◌≡◌, ◌++◌, ◌+◌, ◌≤◌, [], IfOk, OnOk, find, length, map, vec_capacity, vec_len};
 ghost use Rattle.std.specs.Option.{option_map};
@@ -17,27 +18,28 @@ use wl_requests::{Resident, Stacking};
 use wl_scene::{Scene, StackedWindows, Surface, Toplevel, TreeWindow, add_trees};
 use wl_surface::SurfaceNo;
 
-/// Memory that is kept for what a message leads to, so that none is wanted once it is done.
+/// Memory kept for what a message leads to, so the output takes none once the message is done.
 #[derive(Drop)]
 pub(crate) struct Spare<A: Allocator> {
-    /// Where the toplevels can be kept with one more.
+    /// Room for the toplevels and one more.
     pub(crate) toplevels: Vec<Toplevel, A>,
     /// The windows of a toplevel before a message.
     pub(crate) was: Vec<TreeWindow, A>,
-    /// Those after it.
+    /// The windows after it.
     pub(crate) is: Vec<TreeWindow, A>,
     /// The roots of a toplevel's windows.
     pub(crate) roots: Roots<A>,
-    /// The windows of one that is moved.
+    /// The windows of a toplevel that is moved.
     pub(crate) moving: Moving<A>,
 }
 
-/// The mapped toplevels of all clients with the windows that are stacked with them, and which points of the output are to be painted again.
+/// The mapped toplevels of all clients with the windows stacked with them, and which points of the
+/// output are to be painted again.
 #[derive(Drop)]
 pub struct Screen<A: Allocator> {
     /// The mapped toplevels, from bottom to top.
     pub scene: Scene<A>,
-    /// The windows that are stacked with them, from bottom to top.
+    /// The windows stacked with them, from bottom to top.
     pub stacked: StackedWindows<A>,
     /// The points that are to be painted again.
     pub damage: Damage<A>,
@@ -56,7 +58,8 @@ pub(crate) fn toplevel_of<A: Allocator>(scene: &Scene<A>, surface: Surface) -> O
 }
 
 impl<A: Allocator + Copy> Screen<A> {
-    /// No toplevel stands, and these points are to be painted again. An `Err` means that memory ran out.
+    /// A screen without toplevels, with these points to be painted again. An `Err` means that
+    /// memory ran out.
     pub fn new(alloc: A, damage: Damage<A>) -> Result<Self, AllocError>
         ensures scene { IfOk result (λ screen. screen.scene ≡ record { standing = []; next = 0 }) }
         ensures windows { IfOk result (λ screen. screen.stacked.windows ≡ []) }
@@ -77,7 +80,8 @@ impl<A: Allocator + Copy> Screen<A> {
         })
     }
 
-    /// The windows of this toplevel, if there is one, are kept as they are, to be compared with those afterwards.
+    /// Keeps the windows of this toplevel, if there is one, as they are, to be compared with those
+    /// afterwards.
     fn keep_run(&mut self, client: ClientNo, toplevel: Option<SurfaceNo>) -> Result<(), AllocError>
         ensures was { OnOk result (self.new.spare.was.items ≡ run_kept client toplevel self.old.stacked.windows) }
         ensures same { IsSameScreen self.old self.new }
@@ -93,7 +97,7 @@ impl<A: Allocator + Copy> Screen<A> {
             .extend(run.iter().map(|stacked| stacked.window))
     }
 
-    /// Room is made for a toplevel more and for so many windows more.
+    /// Makes room for one more toplevel and this many more windows.
     fn reserve(&mut self, count: usize) -> Result<(), AllocError>
         ensures room { OnOk result (HasRoom count self.new) }
         ensures same { IsSameScreen self.old self.new }
@@ -110,8 +114,9 @@ impl<A: Allocator + Copy> Screen<A> {
         self.stacked.reserve(count)
     }
 
-    /// The windows of this toplevel, if there is one, are kept as they are before a message, and there is room for a toplevel more and for as
-    /// many windows more as the client has surfaces. An `Err` means that memory ran out.
+    /// Keeps the windows of this toplevel, if there is one, as they are before a message. Makes
+    /// room for one more toplevel, and for as many more windows as the client has surfaces. An
+    /// `Err` means that memory ran out.
     pub(crate) fn prepare(
         &mut self,
         client: ClientNo,
@@ -128,7 +133,7 @@ impl<A: Allocator + Copy> Screen<A> {
         self.reserve(surfaces)
     }
 
-    /// What a request asks of the stack of toplevels is done: there is room for one that is mapped.
+    /// Does what a request asks of the stack of toplevels. There is room for one that is mapped.
     pub(crate) fn restack(&mut self, client: ClientNo, stacking: Stacking)
         ensures scene { HasPlace stacking self.old.scene (vec_capacity self.old.spare.toplevels) → IsRestacked client stacking self.old.scene self.new.scene }
         ensures stacked { self.new.stacked ≡ self.old.stacked }
@@ -146,7 +151,8 @@ impl<A: Allocator + Copy> Screen<A> {
         }
     }
 
-    /// The windows that this toplevel has now are kept beside those that it had, if it stands: there is room for them.
+    /// Lists the windows that this toplevel has now, if it stands, beside those that it had. There
+    /// is room for them.
     pub(crate) fn add_run(
         &mut self,
         resident: &Resident<A>,
@@ -172,7 +178,8 @@ impl<A: Allocator + Copy> Screen<A> {
         let _added = add_trees(&owned.surfaces, roots, &mut self.spare.is);
     }
 
-    /// The windows of this toplevel, if there is one, are those that it has now: there is room for them.
+    /// Puts the windows that this toplevel has now, if there is one, in place of those that it had.
+    /// There is room for them.
     pub(crate) fn restack_windows(
         &mut self,
         client: ClientNo,

@@ -1,4 +1,4 @@
-//! Which tree of surfaces a message may change, and with which toplevel that is stacked.
+//! Which tree of surfaces a message may change, and which toplevel that is stacked with.
 
 ghost use Rattle.std.specs.Option.{option_and_then};
 ghost use Rattle.std.specs.Prelude.{ℕ, ◌≡◌, None, Option, Some, option_copied};
@@ -40,9 +40,12 @@ fn touched_in<A: Allocator + Copy>(
     }
 }
 
-/// The surface in whose tree a message that asks this may change windows, by its number: one that is committed or goes, the child of a
-/// wl_subsurface that goes or is desynchronised while its link lives, and that of a toplevel or of a popup that goes (wayland.xml, wl_surface
-/// and wl_subsurface; xdg-shell.xml, xdg_toplevel.destroy and xdg_popup.destroy). None where it may change none.
+/// The surface, by its number, in whose tree a message that asks this may change windows, if it may
+/// (wayland.xml, wl_surface and wl_subsurface; xdg-shell.xml, xdg_toplevel.destroy and
+/// xdg_popup.destroy):
+/// - one that is committed or goes;
+/// - the child of a wl_subsurface that goes or is desynchronised while its link lives;
+/// - that of a toplevel or a popup that goes.
 pub fn touched_by<A: Allocator + Copy>(resident: &Resident<A>, asked: &Asked) -> Option<SurfaceNo>
     ensures { IsTouchedBy resident.now asked.now result }
 {
@@ -83,7 +86,7 @@ fn parent_of<A: Allocator>(shell: &Shell<A>, popup: &Popup) -> Option<SurfaceNo>
     shell.surface_at(parent)
 }
 
-/// The toplevel that the tree of the parent of a popup is stacked with, if that is shown.
+/// The toplevel that the tree of a popup's parent is stacked with, if that is shown.
 fn toplevel_by_parent<A: Allocator>(
     shell: &Shell<A>,
     stacked: &StackedWindows<A>,
@@ -99,8 +102,9 @@ fn toplevel_by_parent<A: Allocator>(
     stacked.toplevel_with(client, parent)
 }
 
-/// The toplevel that the tree of a root is stacked with, or would be if it were mapped: found by its windows, else by those of its popup's
-/// parent; where the root is no popup, the root itself. None where a popup's parent isn't shown (xdg-shell.xml, xdg_popup).
+/// The toplevel that the tree of a root is stacked with, or would be if it were mapped
+/// (xdg-shell.xml, xdg_popup). It is found by the tree's windows, else by those of its popup's
+/// parent. A root that is no popup is the toplevel itself. `None` if a popup's parent isn't shown.
 pub(crate) fn find_toplevel<A: Allocator>(
     shell: &Shell<A>,
     stacked: &StackedWindows<A>,
@@ -119,8 +123,8 @@ pub(crate) fn find_toplevel<A: Allocator>(
     }
 }
 
-/// The popup that what is asked may place: that of a surface that is to be committed, if it has one, and one that is to be placed anew
-/// (xdg-shell.xml, xdg_popup.reposition).
+/// The popup that a message may place: that of a surface to be committed, if it has one, or one to
+/// be placed anew (xdg-shell.xml, xdg_popup.reposition).
 pub(crate) fn popup_to_place<'a, A: Allocator>(
     shell: &'a Shell<A>,
     asked: &Asked,

@@ -13,7 +13,8 @@ use law_desktop::named::{
 };
 use std::alloc::Allocator;
 
-/// What a commit tells by name is the damage that it applies to the windows of each tree (wayland.xml, wl_surface.commit).
+/// What a commit tells by name is the damage that it applies to the windows of each tree
+/// (wayland.xml, wl_surface.commit).
 pub fn commit_told_by_name<A: Allocator>()
     ensures { CommitToldByName A }
 {
@@ -22,7 +23,7 @@ pub fn commit_told_by_name<A: Allocator>()
     commit_tells_applied::<A>();
 }
 
-/// So is what wl_subsurface.set_desync tells of a link that lives.
+/// What wl_subsurface.set_desync of a living link tells is that damage too.
 pub fn desync_told_by_name<A: Allocator>()
     ensures { DesyncToldByName A }
 {
@@ -32,7 +33,7 @@ pub fn desync_told_by_name<A: Allocator>()
     desync_tells_applied::<A>();
 }
 
-/// So is what the end of a link that lives tells (wayland.xml, wl_subsurface.destroy).
+/// What the end of a living link tells is that damage too (wayland.xml, wl_subsurface.destroy).
 pub fn unlink_told_by_name<A: Allocator>()
     ensures { UnlinkToldByName A }
 {
@@ -42,7 +43,8 @@ pub fn unlink_told_by_name<A: Allocator>()
     unlink_tells_applied::<A>();
 }
 
-/// And so is what the end of a surface that is there tells (wayland.xml, wl_surface.destroy).
+/// What the end of a surface that is there tells is that damage too (wayland.xml,
+/// wl_surface.destroy).
 pub fn end_told_by_name<A: Allocator>()
     ensures { EndToldByName A }
 {
@@ -52,7 +54,7 @@ pub fn end_told_by_name<A: Allocator>()
     end_tells_applied::<A>();
 }
 
-/// Of surfaces that stay as they are nothing is to be told.
+/// Nothing is to be told of surfaces that stay as they are.
 pub fn nothing_told_by_name<A: Allocator>()
     ensures { NothingToldByName A }
 {

@@ -1,4 +1,5 @@
-//! What is marked where one tree changed, of windows that are told under other names of their surfaces.
+//! What is marked when one tree changes, of windows that are told under other names of their
+//! surfaces.
 
 ghost use Rattle.law_windows.specs.RenamedMarks.{MarksAppliedByName, MarksBetweenByName, SameByName};
 
@@ -8,23 +9,24 @@ use law_desktop::invariants::{
 };
 use std::alloc::Allocator;
 
-/// The windows of a tree are told by name to be the same where they keep their records.
+/// The windows of a tree that keep their records are told by name to be the same.
 pub fn same_by_name()
     ensures { SameByName }
 {
     same_as_records();
 }
 
-/// What is marked of windows that are told by name is the damage that was applied to their surfaces, where the windows keep their records,
-/// and else all points of the windows, before and after (wayland.xml, wl_surface.damage and wl_subsurface).
+/// If windows that are told by name keep their records, the damage applied to their surfaces is
+/// marked. Else all points of the windows are, before and after (wayland.xml, wl_surface.damage and
+/// wl_subsurface).
 pub fn marks_applied_by_name<A: Allocator>()
     ensures { MarksAppliedByName A }
 {
     same_by_name();
 }
 
-/// Where a step changes one tree, what is marked of the tree's windows, told by name, is all that the step has to mark, and nothing of the
-/// output that it may not mark.
+/// If a step changes one tree, what is marked of its windows, told by name, is all that the step
+/// has to mark. It is nothing of the output that the step may not mark.
 pub fn marks_between_by_name<A: Allocator>()
     ensures { MarksBetweenByName A }
 {

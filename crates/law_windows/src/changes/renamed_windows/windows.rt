@@ -2,13 +2,14 @@
 
 ghost use Rattle.law_windows.specs.RenamedWindows.{ShowsThoseThere, TellsTreesByName, TreesHeedNoNames};
 
-/// Under other names the tree of a surface has the same windows, each under the other name of its surface (wayland.xml, wl_subsurface).
+/// Under other names the tree of a surface has the same windows, each under the other name of its
+/// surface (wayland.xml, wl_subsurface).
 pub fn trees_heed_no_names()
     ensures { TreesHeedNoNames }
 {}
 
-/// What is told of the windows of a tree under other names is the same, but for the names, and whoever owns them (wayland.xml,
-/// wl_subsurface).
+/// What is told of the windows of a tree under other names is the same, but for the names, and
+/// whoever owns them (wayland.xml, wl_subsurface).
 pub fn tells_trees_by_name()
     ensures { TellsTreesByName }
 {}
