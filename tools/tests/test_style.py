@@ -16,7 +16,6 @@ HEAVY = re.compile(r"\b(that which|so that of|as far as|such that)\b", re.IGNORE
 # Crates, and files of crates, whose comments aren't rewritten yet, besides the crates for tests and for measuring.
 UNWRITTEN_SOURCES = {
     "wl_program",
-    "wl_recording",
     "wl_server",
     "wl_store",
     "wl_surface",

@@ -46,8 +46,8 @@ impl<A: Allocator + Copy> Copies<A> {
         least
     }
 
-    /// Puts bytes into a store. Answers which of them differ from what stood there, from the first that does to the last; all of them where
-    /// there is no memory for a copy.
+    /// Puts bytes into a store. Answers which of them differ from what stood there, from the first
+    /// that does to the last; all of them where there is no memory for a copy.
     pub fn put(&mut self, place: &Place, bytes: &[u8]) -> Range<usize>
         requires { place.now.at + length bytes.now < 2 ^ 32 }
         ensures order { result.start ≤ result.end }

@@ -68,7 +68,8 @@ impl<A: Allocator + Copy, W: Write> Recording<A, W> {
         }
     }
 
-    /// Bytes come into a client's store. Written is what differs from what was put there before, from the first byte that does to the last.
+    /// Bytes come into a client's store. Written is what differs from what was put there before,
+    /// from the first byte that does to the last.
     pub fn store(&mut self, place: &Place, bytes: &[u8])
         requires short { length bytes.now ≤ PIECE_LIMIT }
         requires room { place.now.at + length bytes.now < 2 ^ 32 }
@@ -140,7 +141,8 @@ impl<A: Allocator + Copy, W: Write> Recording<A, W> {
         }
     }
 
-    /// What was written isn't held back any more. An `Err` tells that a write failed, then or before.
+    /// What was written isn't held back any more. An `Err` tells that a write failed, then or
+    /// before.
     pub fn flush(&mut self) -> io::Result<()>
         ensures asked { (first : Option (List ℕ)) (asked : List Asked) → HoldsTo 1000000 W.contents first asked self.old
             → HoldsTo 1000000 W.contents first asked self.new }

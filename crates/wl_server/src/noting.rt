@@ -67,7 +67,8 @@ fn end_there<A: Allocator + Copy, R: Write>(
     }
 }
 
-/// Whether a replay doesn't end a client for this cause: it takes all bytes that wait after each line, and has memory.
+/// Whether a replay doesn't end a client for this cause: it takes all bytes that wait after each
+/// line, and has memory.
 fn outlasts(cause: Cause) -> bool
     ensures { result ≡ outlasts cause }
 {

@@ -17,10 +17,12 @@ use std::marker::Model;
 use wl_recording::{Place, Recording};
 use wl_session::{ClientNo, ConnectError, Fed, Session, StoreNo, Stored};
 
-/// A session, and the recording of what is asked of it, where there is to be one. What changes the session goes by here.
+/// A session, and the recording of what is asked of it, where there is to be one. What changes the
+/// session goes by here.
 ///
-/// Each act is a line, in order; before it those that ended by then have lost their numbers there, and those that a replay wouldn't end are gone.
-/// This is so of each value, unless a write failed (`IsRecorded`).
+/// Each act is a line, in order; before it those that ended by then have lost their numbers there,
+/// and those that a replay wouldn't end are gone. This is so of each value, unless a write failed
+/// (`IsRecorded`).
 #[derive(Drop)]
 pub struct Recorded<A: Allocator, R: Write> {
     pub session: Session<A>,
@@ -63,7 +65,8 @@ impl<A: Allocator + Copy, R: Write> Recorded<A, R> {
         }
     }
 
-    /// What was asked since the session began stands in the recording, in order, if there is one, and no write failed.
+    /// What was asked since the session began stands in the recording, in order, if there is one,
+    /// and no write failed.
     pub fn is_recorded(&self)
         ensures { IsRecorded R.contents self.now.session self.now.recording }
     {

@@ -20,7 +20,8 @@ use std::io::Write;
 use wl_recording::{write_frame, write_image};
 use wl_session::Session;
 
-/// Shows a frame at this time, which is recorded, and tells of it where something was damaged. What is recorded up to it isn't held back.
+/// Shows a frame at this time, which is recorded, and tells of it where something was damaged. What
+/// is recorded up to it isn't held back.
 pub(crate) fn show<A: Allocator + Copy, R: Write, W: Write, P: Write>(
     recorded: &mut Recorded<A, R>,
     time: u32,
