@@ -1,5 +1,5 @@
 -- A recording goes on with its session.
-use Rattle.std.proofs.Common.{◌≡◌, ◌+◌, ◌∙◌, ℕ, zero, suc, Bool, true, false, List, [], ◌∷◌, ◌++◌, Option, Some, None, Ok, Err, refl, ap, sym, subst, append-nil}
+use Rattle.std.proofs.Common.{◌≡◌, ◌∙◌, ℕ, suc, false, List, [], ◌∷◌, ◌++◌, Option, Some, None, Ok, Err, refl, ap, sym, subst, append-nil}
 use Rattle.std.proofs.lemmas.Bool.{OnFalse_from}
 use Rattle.std.specs.Prelude.{OnOk, Result, replicate}
 use Rattle.std.proofs.KnownBytes.{Appends-nil}
@@ -9,9 +9,9 @@ use Rattle.spec_desktop.specs.declared.answers.Done.{Done}
 use Rattle.wl_recording.specs.Line.{Asked}
 use Rattle.wl_recording.specs.Recording.{HoldsTo, Recorded, goes, left, number_of}
 use Rattle.wl_session.specs.Agreeing.{Agrees}
-use Rattle.wl_session.specs.Course.{TakesCourse, moment}
+use Rattle.wl_session.specs.Course.{TakesCourse}
 use Rattle.wl_session.specs.View.{SessionView}
-use Rattle.wl_server.specs.Recorded.{Flushes, History, HoldsNotes, IsRecorded, IsRecordedBy, Looks, Notes, NotesAct, NotesOf, OnBoth, begins, goes_on, looked, looked_up_to, no_notes}
+use Rattle.wl_server.specs.Recorded.{Flushes, HoldsNotes, IsRecorded, IsRecordedBy, Looks, Notes, NotesAct, NotesOf, OnBoth, begins, goes_on, looked, looked_up_to, no_notes}
 
 looked-none : {W : Type 0} (contents : W → Option (List ℕ)) (first : Option (List ℕ)) (d : Desktop) (notes : Notes) (r : Recorded W)
     → HoldsNotes contents first notes r → HoldsNotes contents first (looked 0 d notes) r

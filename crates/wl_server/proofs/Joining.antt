@@ -1,8 +1,8 @@
 -- Connections come and go.
-use Rattle.std.proofs.Common.{◌≡◌, ◌<◌, ◌≤◌, ◌+◌, ◌-◌, ◌^◌, ◌⊎◌, ◌&&◌, ℕ, Bool, true, false, List, [], ◌∷◌, Option, Some, None, Ok, Err, refl, ap, sym, subst, inl, inr, ◌∙◌, arith, get_or, set}
+use Rattle.std.proofs.Common.{◌≡◌, ◌<◌, ◌+◌, ◌-◌, ◌^◌, ◌⊎◌, ◌&&◌, ℕ, Bool, true, false, List, [], ◌∷◌, Option, Some, None, Ok, Err, refl, ap, sym, subst, inl, inr, ◌∙◌, arith, get_or, set}
 use Rattle.std.proofs.lemmas.List.{set-get_or}
 use Rattle.std.specs.Io.KnownBytes.{Appends}
-use Rattle.std.specs.Prelude.{IfOk, OnErr, OnOk, Result}
+use Rattle.std.specs.Prelude.{IfOk, OnErr, Result}
 use Rattle.std.proofs.KnownBytes.{Appends-nil}
 use Rattle.wl_server.specs.Faults.{CountsFault, Rose}
 use Rattle.spec_desktop.specs.Act.{Close, Connect, peer_at, status_of, unsent_of}

@@ -1,20 +1,17 @@
 -- What is noted of an act, by what its recording says of itself.
-use Rattle.std.proofs.Common.{◌≡◌, ◌+◌, ◌∙◌, ◌^◌, ℕ, ℤ, suc, Bool, true, false, List, [], ◌∷◌, ◌++◌, Option, Some, None, Ok, Err, refl, ap, sym, subst, length, add-one, append-nil, arith}
+use Rattle.std.proofs.Common.{◌≡◌, ◌+◌, ◌∙◌, ◌^◌, ℕ, ℤ, suc, true, false, List, [], ◌∷◌, ◌++◌, Option, Some, None, Ok, refl, ap, sym, subst, length, add-one}
 use Rattle.std.specs.Prelude.{nat_lt}
-use Rattle.spec_desktop.specs.Act.{Act, Connect, Feed, Leave, Motion, Store, peer_at, status_of}
+use Rattle.spec_desktop.specs.Act.{Act, Connect, Feed, Leave, Motion, peer_at, status_of}
 use Rattle.spec_desktop.specs.Desktop.{Desktop}
-use Rattle.spec_desktop.specs.declared.answers.ConnectError.{ConnectError}
 use Rattle.spec_desktop.specs.declared.answers.Done.{Done}
 use Rattle.spec_desktop.specs.declared.answers.Done.TheVariants as gave
 use Rattle.spec_desktop.specs.declared.answers.Fed.{Fed}
-use Rattle.spec_desktop.specs.declared.answers.Fed.TheVariants.{Ended}
 use Rattle.spec_desktop.specs.declared.answers.Stored.TheVariants as stored
-use Rattle.spec_desktop.specs.declared.cause.Cause.{Cause}
 use Rattle.wl_recording.specs.Line as line
 use Rattle.wl_recording.specs.Line.{Asked}
-use Rattle.wl_recording.specs.Recording.{Feeds, HoldsTo, Puts, Recorded, goes, joined, left, number_of}
+use Rattle.wl_recording.specs.Recording.{Feeds, HoldsTo, Puts, Recorded, goes, joined, number_of}
 use Rattle.wl_recording.specs.declared.place.Place.{Place}
-use Rattle.wl_server.specs.Recorded.{HoldsNotes, Notes, NotesAct, NotesOf, NotesStored, OnBoth, looked_at, looked_up_to, outlasts, with_lines}
+use Rattle.wl_server.specs.Recorded.{HoldsNotes, Notes, NotesAct, NotesOf, NotesStored, OnBoth, looked_at, looked_up_to, with_lines}
 
 -- ---- where there is a recording, and where there is none
 

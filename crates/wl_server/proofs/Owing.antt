@@ -1,14 +1,13 @@
 -- Clients share the server's time.
-use Rattle.std.proofs.Common.{◌≡◌, ◌<◌, ◌≤◌, ◌+◌, ◌*◌, ◌-◌, ℕ, Bool, true, false, List, [], Option, Some, None, refl, ap, sym, subst, arith}
+use Rattle.std.proofs.Common.{◌≡◌, ◌≤◌, ◌+◌, ◌*◌, ◌-◌, ℕ, Bool, true, false, List, [], Option, refl, ap, sym, subst, arith}
 use Rattle.wl_recording.specs.Side.{Files}
 use Rattle.wl_recording.specs.declared.pointer.PointerLine.{PointerLine}
 use Rattle.wl_session.specs.Course.{moment}
 use Rattle.wl_session.specs.View.{SessionView}
 use Rattle.wl_server.specs.declared.seat.Seat.{Seat}
-use Rattle.wl_server.specs.Acting.{InTurn, Takes, Then}
+use Rattle.wl_server.specs.Acting.{InTurn, Takes}
 use Rattle.wl_server.specs.Phases.{Accepting, AcceptsAll, AtSeat, FillsSeat, Link, Place, ReadsUntil}
-use Rattle.wl_server.specs.Seats.{Seated}
-use Rattle.wl_server.specs.Sharing.{AreCharged, Both, FillsShared, IsShareOver, NobodyIsPassedOver, OnHub, OnSide, PassedOver, ReadsShare, ReadsShared, ReadsUnless, SharesIn, SharesSeat, Sharing, owes, passed_over}
+use Rattle.wl_server.specs.Sharing.{AreCharged, Both, FillsShared, IsShareOver, NobodyIsPassedOver, OnHub, OnSide, PassedOver, ReadsShare, ReadsShared, ReadsUnless, SharesIn, SharesSeat, Sharing, owes}
 use Rattle.wl_server.specs.Telling.{Reports}
 use Rattle.wl_server.specs.Ways.{Serving, Ways, serving}
 use Rattle.wl_server.proofs.Passing.{then-pass}

@@ -1,4 +1,4 @@
-use Rattle.std.proofs.Common.{◌≡◌, ◌+◌, true, false, arith}
+use Rattle.std.proofs.Common.{◌+◌, true, false, arith}
 use Rattle.wl_server.specs.Phases.{ReadsOnce}
 use Rattle.wl_server.specs.Sharing.{IsShareOver}
 use Rattle.wl_server.specs.Ways.{ways}
