@@ -154,6 +154,8 @@ class Display(Pointer, Typist, Expecting):
         self.rest_hands()
         with contextlib.suppress(Failure, OSError):
             self.hear()  # what is said from now on is of the end
+        for client in self.clients:
+            client.is_asked_to_end |= client.returncode is None
         try:
             with contextlib.suppress(Failure):
                 for process in [*reversed([it.process for it in self.clients]), self.bridge, self.server]:
