@@ -431,11 +431,12 @@ class Keeps(Displays):
                 with self.assertRaisesRegex(wlframe.Failure, "is too old to record what is served: it has no --record. Build it anew"):
                     self.display(record=record)
             return
-        with self.display(record=True) as display, self.display(record=self.room / "named.rec") as named:
-            for each in (display, named):
-                self.lamp(each)
-            self.assertTrue(display.save_recording(self.room / "saved.rec"))
-            self.assertFalse(named.save_recording(self.room / "none.rec"))
+        display, named = self.display(record=True), self.display(record=self.room / "named.rec")
+        for each in (display, named):
+            self.lamp(each)
+        self.assertTrue(display.save_recording(self.room / "saved.rec"))
+        self.assertFalse(named.save_recording(self.room / "none.rec"))
+        named.close()
         for name in ("saved.rec", "named.rec"):
             with open(self.room / name, "rb") as recording:
                 subprocess.run([program(), "replay", "--size", "64x48", "--ppm", self.room / "again.ppm"], stdin=recording, capture_output=True, check=True)

@@ -15,9 +15,7 @@ DOCS = 28_000  # words of docs/ at most
 HEAVY = re.compile(r"\b(that which|so that of|as far as|such that)\b", re.IGNORECASE)
 # Crates, and files of crates, whose comments aren't rewritten yet, besides the crates for tests and for measuring.
 UNWRITTEN_SOURCES = {
-    "wl_program",
     "wl_recording",
-    "wl_server",
     "wl_store",
     "wl_surface",
 }

@@ -8,7 +8,7 @@ use wl_surface::{Attached, BufferNo, SurfaceError, SurfaceNo, Surfaces};
 pub(crate) fn create<A: Allocator + Copy>(
     surfaces: &mut Surfaces<A>,
 ) -> Result<SurfaceNo, SurfaceError> {
-    surfaces.states.create()
+    surfaces.create()
 }
 
 /// Attaches a buffer of 5 by 8 pixels at an offset.
@@ -26,7 +26,7 @@ pub(crate) fn attach<A: Allocator + Copy>(
             store: 1,
             layout,
         };
-        surfaces.states.attach(surface, Some(buffer), x, y);
+        surfaces.attach(surface, Some(buffer), x, y);
     }
 }
 
@@ -35,7 +35,7 @@ pub(crate) fn damage<A: Allocator + Copy>(
     surfaces: &mut Surfaces<A>,
     rect: Rect,
 ) -> Result<(), SurfaceError> {
-    surfaces.states.damage(0, rect)
+    surfaces.damage(0, rect)
 }
 
 /// Commits, whatever that tells.
@@ -65,7 +65,7 @@ pub(crate) fn set_opaque<A: Allocator + Copy>(
     surfaces: &mut Surfaces<A>,
     region: Option<&Region<A>>,
 ) -> Result<(), SurfaceError> {
-    surfaces.states.set_opaque(0, region)
+    surfaces.set_opaque(0, region)
 }
 
 /// Sets the input region of the surface 0.
@@ -73,5 +73,5 @@ pub(crate) fn set_input<A: Allocator + Copy>(
     surfaces: &mut Surfaces<A>,
     region: Option<&Region<A>>,
 ) -> Result<(), SurfaceError> {
-    surfaces.states.set_input(0, region)
+    surfaces.set_input(0, region)
 }

@@ -1,7 +1,7 @@
 use crate::calls::{attach, create};
 use std::alloc::{Allocator, Global};
 use wl_geom::Rect;
-use wl_surface::{BufferNo, Change, Offset, SurfaceError, Surfaces, Told};
+use wl_surface::{Applied, BufferNo, Change, Offset, SurfaceError, Surfaces};
 
 const CORNER: Rect = Rect {
     x: 0,
@@ -18,8 +18,7 @@ const CHILD: usize = 1;
 // Attaches a buffer one pixel farther to the right, damages a corner, and asks for a frame.
 fn asks<A: Allocator + Copy>(surfaces: &mut Surfaces<A>, number: BufferNo, callback: u32) -> bool {
     attach(surfaces, CHILD, number, 1, 0);
-    surfaces.states.damage(CHILD, CORNER) == Ok(())
-        && surfaces.states.frame(CHILD, callback) == Ok(())
+    surfaces.damage(CHILD, CORNER) == Ok(()) && surfaces.frame(CHILD, callback) == Ok(())
 }
 
 // How many rectangles of the child are damaged, if it is told of at all.
@@ -32,8 +31,8 @@ fn damaged<A: Allocator>(changes: &[Change<A>]) -> Option<usize> {
     None
 }
 
-fn is_silent<A: Allocator>(told: &Told<A>) -> bool {
-    told.applied.changes.is_empty() && told.applied.callbacks.is_empty()
+fn is_silent<A: Allocator>(told: &Applied<A>) -> bool {
+    told.changes.is_empty() && told.callbacks.is_empty()
 }
 
 // A commit that is held tells no change.
@@ -62,27 +61,27 @@ fn holds_two<A: Allocator + Copy>(surfaces: &mut Surfaces<A>) -> bool {
 
 // The number of the buffer that the child shows, and how far it has moved.
 fn shown<A: Allocator>(surfaces: &Surfaces<A>) -> Option<(BufferNo, Offset)> {
-    let current = surfaces.states.current(CHILD)?;
+    let current = surfaces.current(CHILD)?;
     Some((current.buffer?.number, current.offset))
 }
 
 fn next_frame<A: Allocator + Copy>(surfaces: &mut Surfaces<A>) -> Option<u32> {
-    surfaces.states.next_frame()
+    surfaces.next_frame()
 }
 
 // Only the last buffer that is held is busy, and nothing is shown.
 fn has_applied_none<A: Allocator + Copy>(surfaces: &mut Surfaces<A>) -> bool {
     shown(surfaces).is_none()
-        && !surfaces.states.is_busy(7)
-        && surfaces.states.is_busy(8)
-        && !surfaces.states.is_busy(9)
+        && !surfaces.is_busy(7)
+        && surfaces.is_busy(8)
+        && !surfaces.is_busy(9)
         && next_frame(surfaces).is_none()
 }
 
 // Whether a commit of the parent tells of the child, and how many rectangles of it are damaged.
 fn tells<A: Allocator + Copy>(surfaces: &mut Surfaces<A>, rects: usize) -> bool {
     match surfaces.commit(PARENT) {
-        Ok(told) => damaged(&told.applied.changes) == Some(rects),
+        Ok(told) => damaged(&told.changes) == Some(rects),
         Err(_) => false,
     }
 }
@@ -96,9 +95,9 @@ fn applies_both<A: Allocator + Copy>(surfaces: &mut Surfaces<A>) -> bool {
         && next_frame(surfaces).is_none()
 }
 
-fn first<A: Allocator>(told: Result<Told<A>, SurfaceError>) -> Option<u32> {
+fn first<A: Allocator>(told: Result<Applied<A>, SurfaceError>) -> Option<u32> {
     match told {
-        Ok(told) => told.applied.callbacks.first().copied(),
+        Ok(told) => told.callbacks.first().copied(),
         Err(_) => None,
     }
 }
@@ -107,7 +106,7 @@ fn first<A: Allocator>(told: Result<Told<A>, SurfaceError>) -> Option<u32> {
 fn has_applied_all(surfaces: &mut Surfaces<Global>) -> bool {
     tells(surfaces, 0)
         && first(surfaces.destroy(CHILD)) == Some(32)
-        && surfaces.states.current(CHILD).is_none()
+        && surfaces.current(CHILD).is_none()
 }
 
 // A link that isn't there ends, and is desynchronised, without a word.

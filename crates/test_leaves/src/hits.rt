@@ -91,11 +91,11 @@ fn overlap<A: Allocator>(surfaces: &SurfaceStates<A>) -> bool {
 #[test]
 fn the_topmost_window_that_takes_the_input_is_hit(rt: HostRuntime) {
     let mut surfaces = Surfaces::new(rt.alloc());
-    assert!(rt; are_made(&mut surfaces, rt.alloc()) && overlap(&surfaces.states));
+    assert!(rt; are_made(&mut surfaces, rt.alloc()) && overlap(surfaces.states()));
     assert!(rt;
         takes_input(
             &window(1, 0, i32::MIN, 0),
-            Some(&surfaces.states),
+            Some(surfaces.states()),
             i32::MIN,
             3
         )
@@ -103,7 +103,7 @@ fn the_topmost_window_that_takes_the_input_is_hit(rt: HostRuntime) {
     assert!(rt;
         !takes_input(
             &window(1, 0, i32::MIN, 0),
-            Some(&surfaces.states),
+            Some(surfaces.states()),
             i32::MAX,
             3
         )
@@ -130,5 +130,8 @@ fn kept_hit<A: Allocator + Copy>(surfaces: &SurfaceStates<A>, alloc: A) -> Optio
 fn the_surface_of_the_topmost_window_is_hit(rt: HostRuntime) {
     let mut surfaces = Surfaces::new(rt.alloc());
     assert!(rt; are_made(&mut surfaces, rt.alloc()));
-    assert_eq!(rt; kept_hit(&surfaces.states, rt.alloc()), Some((true, false)));
+    assert_eq!(rt;
+        kept_hit(surfaces.states(), rt.alloc()),
+        Some((true, false))
+    );
 }

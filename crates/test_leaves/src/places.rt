@@ -118,7 +118,7 @@ fn shows<A: Allocator + Copy>(surfaces: &mut Surfaces<A>, surface: SurfaceNo, ri
             store: 1,
             layout,
         };
-        surfaces.states.attach(surface, Some(buffer), right, 0);
+        surfaces.attach(surface, Some(buffer), right, 0);
     }
     surfaces.commit(surface).is_ok()
 }
@@ -179,7 +179,7 @@ fn has_toplevel<A: Allocator + Copy>(owned: &mut Owned<A>) -> bool {
 
 fn has_all<A: Allocator + Copy>(owned: &mut Owned<A>) -> bool {
     for number in 0..6_usize {
-        if owned.surfaces.states.create() != Ok(number) {
+        if owned.surfaces.create() != Ok(number) {
             return false;
         }
     }

@@ -28,7 +28,7 @@ fn attaches<A: Allocator + Copy>(
 }
 
 fn detaches<A: Allocator + Copy>(surfaces: &mut Surfaces<A>, x: i32, y: i32) -> bool {
-    surfaces.states.attach(0, None, x, y);
+    surfaces.attach(0, None, x, y);
     true
 }
 
@@ -108,7 +108,7 @@ fn had<A: Allocator>(
 // Attaches at this offset, commits, and says whether the surface is at that place then.
 fn moves<A: Allocator + Copy>(surfaces: &mut Surfaces<A>, by: (i32, i32), x: i32, y: i32) -> bool {
     attach(surfaces, 0, 7, by.0, by.1);
-    commit(surfaces, 0) == Ok(()) && is_at(&surfaces.states, 0, x, y)
+    commit(surfaces, 0) == Ok(()) && is_at(surfaces.states(), 0, x, y)
 }
 
 fn has_form<A: Allocator>(
@@ -142,14 +142,14 @@ fn is_four_by_four<A: Allocator>(surfaces: &SurfaceStates<A>) -> bool {
 fn has_counted(surfaces: &mut Surfaces<Global>, region: &mut Region<Global>) -> bool {
     create(surfaces) == Ok(0)
         && region.add(FOUR_BY_FOUR) == Ok(())
-        && is_unset(&surfaces.states)
+        && is_unset(surfaces.states())
         && sets_both(surfaces, Some(region))
         && region.subtract(FOUR_BY_FOUR) == Ok(())
-        && is_unset(&surfaces.states)
+        && is_unset(surfaces.states())
         && commit(surfaces, 0) == Ok(())
-        && is_four_by_four(&surfaces.states)
+        && is_four_by_four(surfaces.states())
         && commit(surfaces, 0) == Ok(())
-        && is_four_by_four(&surfaces.states)
+        && is_four_by_four(surfaces.states())
 }
 
 fn creates_256<A: Allocator + Copy>(surfaces: &mut Surfaces<A>) -> bool {
@@ -221,10 +221,10 @@ fn is_met<A: Allocator + Copy>(surfaces: &mut Surfaces<A>, row: &Row) -> bool {
         Row::CannotCommit => commit(surfaces, 0) == Err(SurfaceError::Memory),
         Row::Destroys(surface) => destroy(surfaces, surface) == Ok(()),
         Row::Damages => damage(surfaces, FOUR_BY_FOUR) == Ok(()),
-        Row::Turns(number, wanted) => surfaces.states.set_transform(0, number) == wanted,
-        Row::TakesRole(surface, role, wanted) => surfaces.states.give_role(surface, role) == wanted,
+        Row::Turns(number, wanted) => surfaces.set_transform(0, number) == wanted,
+        Row::TakesRole(surface, role, wanted) => surfaces.give_role(surface, role) == wanted,
         Row::Moves(by, x, y) => moves(surfaces, by, x, y),
-        _ => is_seen(&surfaces.states, row),
+        _ => is_seen(surfaces.states(), row),
     }
 }
 
@@ -373,11 +373,11 @@ fn made<A: Allocator + Copy>(surfaces: &mut Surfaces<A>) -> Option<SurfaceNo> {
 // Whether the next is refused once more, and those that were made, and no other, are there.
 fn has_only<A: Allocator + Copy>(surfaces: &mut Surfaces<A>, made: SurfaceNo) -> bool {
     for number in 0..made {
-        if surfaces.states.current(number).is_none() {
+        if surfaces.current(number).is_none() {
             return false;
         }
     }
-    create(surfaces) == Err(SurfaceError::Memory) && surfaces.states.current(made).is_none()
+    create(surfaces) == Err(SurfaceError::Memory) && surfaces.current(made).is_none()
 }
 
 // Whether surfaces are made up to a refusal, and those stay.
@@ -532,7 +532,7 @@ fn sets_a_region<A: Allocator + Copy, B: Allocator>(
         return Some(2);
     }
     let set = sets_and_commits(surfaces, region, heap)?;
-    if set < 3 || is_four_by_four(&surfaces.states) {
+    if set < 3 || is_four_by_four(surfaces.states()) {
         Some(set)
     } else {
         None

@@ -3,7 +3,7 @@ use test_support::Refusing;
 use wl_geom::Rect;
 use wl_links::{Member, Placed};
 use wl_store::layout;
-use wl_surface::{Attached, BufferNo, Role, SurfaceError, SurfaceNo, Surfaces, Told};
+use wl_surface::{Applied, Attached, BufferNo, Role, SurfaceError, SurfaceNo, Surfaces};
 
 const ROOT: SurfaceNo = 0;
 
@@ -28,13 +28,13 @@ fn stack_is<A: Allocator + Copy>(
     surface: SurfaceNo,
     wanted: &[Placed],
 ) -> bool {
-    surfaces.family.stack(surface) == wanted
+    surfaces.stack(surface) == wanted
 }
 
 // Makes so many surfaces.
 fn made<A: Allocator + Copy>(surfaces: &mut Surfaces<A>, count: usize) -> bool {
     for number in 0..count {
-        if surfaces.states.create() != Ok(number) {
+        if surfaces.create() != Ok(number) {
             return false;
         }
     }
@@ -50,7 +50,7 @@ fn attach<A: Allocator + Copy>(surfaces: &mut Surfaces<A>, surface: SurfaceNo, n
             store: 1,
             layout,
         };
-        surfaces.states.attach(surface, Some(buffer), 0, 0);
+        surfaces.attach(surface, Some(buffer), 0, 0);
     }
 }
 
@@ -61,22 +61,22 @@ fn damage_at<A: Allocator>(surfaces: &mut Surfaces<A>, surface: SurfaceNo, at: i
         w: 1,
         h: 1,
     };
-    surfaces.states.damage(surface, point) == Ok(())
+    surfaces.damage(surface, point) == Ok(())
 }
 
 fn shown<A: Allocator>(surfaces: &Surfaces<A>, surface: SurfaceNo) -> Option<BufferNo> {
-    let current = surfaces.states.current(surface)?;
+    let current = surfaces.current(surface)?;
     Some(current.buffer?.number)
 }
 
 // Whether an answer tells just this: of each of these surfaces, in this order, so many rectangles, and that these buffers are freed.
 fn tells<A: Allocator>(
-    answer: Result<Told<A>, SurfaceError>,
+    answer: Result<Applied<A>, SurfaceError>,
     wanted: &[(SurfaceNo, usize)],
     freed: &[BufferNo],
 ) -> bool {
     match answer {
-        Ok(Told { applied, .. }) => {
+        Ok(applied) => {
             applied.changes.len() == wanted.len()
                 && applied.changes.iter().zip(wanted).all(|(change, row)| change.surface == row.0
                     && change.rects.len() == row.1)
@@ -87,7 +87,10 @@ fn tells<A: Allocator>(
 }
 
 // Whether an answer tells that just these buffers were shown, in this order, each as it was attached.
-fn tells_shown<A: Allocator>(answer: Result<Told<A>, SurfaceError>, wanted: &[BufferNo]) -> bool {
+fn tells_shown<A: Allocator>(
+    answer: Result<Applied<A>, SurfaceError>,
+    wanted: &[BufferNo],
+) -> bool {
     match answer {
         Ok(told) => {
             told.shown.len() == wanted.len()
@@ -149,7 +152,7 @@ fn holds_commits<A: Allocator + Copy>(surfaces: &mut Surfaces<A>) -> bool {
         && commits(surfaces, CHILD, 19, &[], &[])
         && commits(surfaces, CHILD, 20, &[], &[19])
         && shown(surfaces, CHILD) == Some(18)
-        && surfaces.states.is_busy(20)
+        && surfaces.is_busy(20)
         && tells(surfaces.commit(ROOT), &[(ROOT, 0), (CHILD, 2)], &[18])
         && shown(surfaces, CHILD) == Some(20)
 }
@@ -188,9 +191,9 @@ fn ends_with_its_link<A: Allocator + Copy>(surfaces: &mut Surfaces<A>) -> bool {
         && commits(surfaces, CHILD, 19, &[], &[])
         && tells(surfaces.remove_subsurface(CHILD), &[(CHILD, 1)], &[18])
         && stack_is(surfaces, ROOT, &[ITSELF])
-        && surfaces.family.link(CHILD).is_none()
+        && surfaces.link(CHILD).is_none()
         && tells(surfaces.remove_subsurface(CHILD), &[], &[]);
-    surfaces.states.attach(CHILD, None, 0, 0);
+    surfaces.attach(CHILD, None, 0, 0);
     is_ended && tells(surfaces.commit(CHILD), &[(CHILD, 0)], &[19])
 }
 
@@ -199,7 +202,7 @@ fn ends_with_its_parent<A: Allocator + Copy>(surfaces: &mut Surfaces<A>) -> bool
     surfaces.subsurface(CHILD, ROOT) == Ok(())
         && commits(surfaces, CHILD, 20, &[], &[])
         && tells(surfaces.destroy(ROOT), &[(ROOT, 0), (CHILD, 1)], &[10])
-        && surfaces.family.link(CHILD).is_none()
+        && surfaces.link(CHILD).is_none()
         && shown(surfaces, CHILD) == Some(20)
 }
 
@@ -302,12 +305,12 @@ fn answered_otherwise<A: Allocator + Copy>(
 // Whether links are refused in this order.
 fn refuses_links<A: Allocator + Copy>(surfaces: &mut Surfaces<A>) -> bool {
     made(surfaces, 20)
-        && surfaces.states.give_role(19, Role::Toplevel) == Ok(())
+        && surfaces.give_role(19, Role::Toplevel) == Ok(())
         && chains_16(surfaces)
         && answered_otherwise(surfaces, &ASKED).is_none()
         && tells(surfaces.remove_subsurface(16), &[(16, 0)], &[])
         && surfaces.subsurface(0, 17) == Err(SurfaceError::TooDeep)
-        && surfaces.states.role(18) == Some(Role::Subsurface)
+        && surfaces.role(18) == Some(Role::Subsurface)
 }
 
 // wl_subcompositor.get_subsurface
@@ -320,7 +323,7 @@ fn links_are_refused(rt: HostRuntime) {
 // What a commit of the window and of its child tells, the window's first: None where there was no memory for it.
 fn committed<A: Allocator + Copy>(surfaces: &mut Surfaces<A>, surface: SurfaceNo) -> Option<usize> {
     match surfaces.commit(surface) {
-        Ok(told) => Some(told.applied.changes.len()),
+        Ok(told) => Some(told.changes.len()),
         Err(_) => None,
     }
 }

@@ -18,14 +18,14 @@ fn shows<A: Allocator + Copy>(
             store: 1,
             layout,
         };
-        surfaces.states.attach(surface, Some(buffer), right, 0);
+        surfaces.attach(surface, Some(buffer), right, 0);
     }
     surfaces.commit(surface).is_ok()
 }
 
 fn made<A: Allocator + Copy>(surfaces: &mut Surfaces<A>, count: usize) -> bool {
     for number in 0..count {
-        if surfaces.states.create() != Ok(number) {
+        if surfaces.create() != Ok(number) {
             return false;
         }
     }
@@ -79,7 +79,7 @@ fn a_tree_is_seen_in_its_order(rt: HostRuntime) {
         window(2, 15, 25),
     ];
     assert!(rt; has(&surfaces, rt.alloc(), &all));
-    surfaces.states.attach(1, None, 0, 0);
+    surfaces.attach(1, None, 0, 0);
     assert!(rt; surfaces.commit(1).is_ok() && has(&surfaces, rt.alloc(), &all));
     assert!(rt; surfaces.commit(0).is_ok());
     assert!(rt;
@@ -91,7 +91,7 @@ fn a_tree_is_seen_in_its_order(rt: HostRuntime) {
     );
     assert!(rt; surfaces.remove_subsurface(3).is_ok());
     assert!(rt; has(&surfaces, rt.alloc(), &[window(0, 12, 20)]));
-    surfaces.states.attach(0, None, 0, 0);
+    surfaces.attach(0, None, 0, 0);
     assert!(rt; surfaces.commit(0).is_ok() && has(&surfaces, rt.alloc(), &[]));
 }
 
@@ -104,9 +104,9 @@ fn shows_turned<A: Allocator + Copy>(surfaces: &mut Surfaces<A>, right: i32) -> 
             store: 1,
             layout,
         };
-        surfaces.states.attach(0, Some(buffer), right, 0);
+        surfaces.attach(0, Some(buffer), right, 0);
     }
-    surfaces.states.set_transform(0, 1) == Ok(()) && surfaces.commit(0).is_ok()
+    surfaces.set_transform(0, 1) == Ok(()) && surfaces.commit(0).is_ok()
 }
 
 // wl_surface.attach and set_buffer_transform: a window is as large as its turned buffer, and stands no farther than 16,777,216.

@@ -7,6 +7,8 @@ mod grabs;
 #[cfg(test)]
 mod outside;
 #[cfg(test)]
+mod parts;
+#[cfg(test)]
 mod pointing;
 #[cfg(test)]
 mod popups;

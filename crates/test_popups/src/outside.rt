@@ -1,22 +1,19 @@
 //! Presses while a client's popups grab: which of them dismiss, which popups go, in which order, and what is painted and told then (xdg-shell.xml,
 //! xdg_popup.grab).
 
-use crate::grabs::{DISMISSED, DISMISSES_UNMAPPED, GETS, GRABS};
-use crate::pointing::{
-    LEAVES, PRESS, PRESSES, RELEASE, RELEASES, SECOND_PRESS, TO_NOTHING, TO_POPUP, TO_TOPLEVEL,
-};
-use crate::submenus::{ATTACH_25, COMMIT_22, POSITIONER_21};
+use crate::grabs::DISMISSED;
+use crate::parts::{Case, Part};
+use crate::pointing::{PRESS, RELEASE, SECOND_PRESS, TO_NOTHING, TO_POPUP, TO_TOPLEVEL};
+use crate::submenus::{ATTACH_25, COMMIT_22};
 use crate::support::{
-    ATTACH_18, BUFFER_18, COMMIT_14, DETACH_14, PLACED, POSITIONER, RELEASED_18, SURFACE,
-    missed_after_toplevel,
+    ATTACH_18, BUFFER_18, COMMIT_14, DETACH_14, PLACED, RELEASED_18, missed_after_toplevel,
 };
-use test_rows::begun::SEATED;
-use test_rows::rows::{Case, Message, Pixel, Row};
+use test_rows::rows::{Message, Pixel, Row};
 use wl_session::{Done, Step};
 use wl_wire::{Arg, Fixed};
 
 /// The popup 17 is mapped at (40, 40), with the serial 4 of its configure where just a press was told.
-const MAPS_4: &[Row] = &[
+pub(crate) const MAPS_4: &[Row] = &[
     Row::Accepts(COMMIT_14, &[PLACED, Message(15, 0, &[Arg::Uint(4)])]),
     Row::Sends(Message(15, 4, &[Arg::Uint(4)])),
     Row::Sends(BUFFER_18),
@@ -230,13 +227,13 @@ const PRESSES_SECOND_TOPLEVEL: &[Row] = &[
 ];
 
 /// The surface 22 with its xdg_surface 23.
-const SURFACE_22: &[Row] = &[
+pub(crate) const SURFACE_22: &[Row] = &[
     Row::Sends(Message(3, 0, &[Arg::NewId(22)])),
     Row::Sends(Message(5, 2, &[Arg::NewId(23), Arg::Object(22)])),
 ];
 
 /// It has the popup 24 on the popup 17, or on the toplevel.
-const GETS_SUBMENU: &[Row] = &[Row::Accepts(
+pub(crate) const GETS_SUBMENU: &[Row] = &[Row::Accepts(
     Message(23, 2, &[Arg::NewId(24), Arg::Object(15), Arg::Object(21)]),
     &[],
 )];
@@ -248,12 +245,12 @@ const GETS_BESIDE: &[Row] = &[Row::Accepts(
 
 const GRAB_24: Message = Message(24, 1, &[Arg::Object(12), Arg::Uint(3)]);
 
-const SUBMENU_GRABS: &[Row] = &[Row::Accepts(GRAB_24, &[])];
+pub(crate) const SUBMENU_GRABS: &[Row] = &[Row::Accepts(GRAB_24, &[])];
 
 const SUBMENU_DISMISSED: Message = Message(24, 1, &[]);
 
 /// It is mapped with the buffer 25 of 4 by 4 pixels, at (32, 32).
-const SUBMENU_MAPS: &[Row] = &[
+pub(crate) const SUBMENU_MAPS: &[Row] = &[
     Row::Accepts(
         COMMIT_22,
         &[
@@ -285,7 +282,7 @@ const SUBMENU_MAPS: &[Row] = &[
 ];
 
 /// The pointer goes where nothing is while the button is down, which is released there.
-const GOES_OUT: &[Row] = &[TO_NOTHING, RELEASE, Row::Takes];
+pub(crate) const GOES_OUT: &[Row] = &[TO_NOTHING, RELEASE, Row::Takes];
 
 /// A press there dismisses both, the newest first, and paints the points of both and no others.
 const DISMISSES_BOTH: &[Row] = &[
@@ -386,81 +383,90 @@ const BY_WHERE: &[Case] = &[
     (
         "the popup is pressed, and is dismissed with the focus",
         &[
-            SEATED,
-            PRESSES,
-            SURFACE,
-            POSITIONER,
-            GETS,
-            GRABS,
-            MAPS_4,
-            RELEASES_5,
-            ENTERS_POPUP,
-            PRESSES_POPUP,
-            DISMISSES_FOCUS,
+            Part::Seated,
+            Part::Presses,
+            Part::Surface,
+            Part::Positioner,
+            Part::Gets,
+            Part::Grabs,
+            Part::MapsPressed,
+            Part::Own(RELEASES_5),
+            Part::Own(ENTERS_POPUP),
+            Part::Own(PRESSES_POPUP),
+            Part::Own(DISMISSES_FOCUS),
         ],
     ),
     (
         "its toplevel is pressed",
         &[
-            SEATED,
-            PRESSES,
-            SURFACE,
-            POSITIONER,
-            GETS,
-            GRABS,
-            MAPS_4,
-            RELEASES_5,
-            PRESSES_TOPLEVEL,
-        ],
-    ),
-    (
-        "another toplevel of the client is pressed",
-        &[
-            SECOND_TOPLEVEL,
-            SEATED,
-            PRESSES_BELOW,
-            SURFACE,
-            POSITIONER,
-            GETS,
-            GRABS_4,
-            MAPS_5,
-            PRESSES_SECOND_TOPLEVEL,
+            Part::Seated,
+            Part::Presses,
+            Part::Surface,
+            Part::Positioner,
+            Part::Gets,
+            Part::Grabs,
+            Part::MapsPressed,
+            Part::Own(RELEASES_5),
+            Part::Own(PRESSES_TOPLEVEL),
         ],
     ),
 ];
+
+/// By a press of another toplevel.
+const BY_SECOND_TOPLEVEL: &[Case] = &[(
+    "another toplevel of the client is pressed",
+    &[
+        Part::Own(SECOND_TOPLEVEL),
+        Part::Seated,
+        Part::Own(PRESSES_BELOW),
+        Part::Surface,
+        Part::Positioner,
+        Part::Gets,
+        Part::Own(GRABS_4),
+        Part::Own(MAPS_5),
+        Part::Own(PRESSES_SECOND_TOPLEVEL),
+    ],
+)];
 
 /// While a button is down, by a press that is ignored, and by a release.
 const BY_BUTTON: &[Case] = &[
     (
         "dismissed while a button is down",
         &[
-            SEATED,
-            PRESSES,
-            SURFACE,
-            POSITIONER,
-            GETS,
-            GRABS,
-            MAPS_4,
-            DISMISSES_HELD,
+            Part::Seated,
+            Part::Presses,
+            Part::Surface,
+            Part::Positioner,
+            Part::Gets,
+            Part::Grabs,
+            Part::MapsPressed,
+            Part::Own(DISMISSES_HELD),
         ],
     ),
     (
         "a press that is ignored",
         &[
-            SEATED, PRESSES, SURFACE, POSITIONER, GETS, GRABS, MAPS_4, IGNORED,
+            Part::Seated,
+            Part::Presses,
+            Part::Surface,
+            Part::Positioner,
+            Part::Gets,
+            Part::Grabs,
+            Part::MapsPressed,
+            Part::Own(IGNORED),
         ],
     ),
     (
         "a release",
         &[
-            SEATED,
-            PRESSES,
-            SURFACE,
-            POSITIONER,
-            GETS,
-            GRABS,
-            MAPS_4,
-            RELEASES_OUTSIDE,
+            Part::Seated,
+            Part::Presses,
+            Part::Surface,
+            Part::Positioner,
+            Part::Gets,
+            Part::Grabs,
+            Part::MapsPressed,
+            Part::Own(RELEASES_OUTSIDE),
         ],
     ),
 ];
@@ -470,55 +476,55 @@ const SUBMENUS: &[Case] = &[
     (
         "a menu and its submenu grab",
         &[
-            SEATED,
-            PRESSES,
-            SURFACE,
-            POSITIONER,
-            GETS,
-            GRABS,
-            MAPS_4,
-            POSITIONER_21,
-            SURFACE_22,
-            GETS_SUBMENU,
-            SUBMENU_GRABS,
-            SUBMENU_MAPS,
-            GOES_OUT,
-            DISMISSES_BOTH,
+            Part::Seated,
+            Part::Presses,
+            Part::Surface,
+            Part::Positioner,
+            Part::Gets,
+            Part::Grabs,
+            Part::MapsPressed,
+            Part::Positioner21,
+            Part::Surface22,
+            Part::GetsSubmenu,
+            Part::SubmenuGrabs,
+            Part::SubmenuMapsGrabbing,
+            Part::GoesOut,
+            Part::Own(DISMISSES_BOTH),
         ],
     ),
     (
         "a submenu without a grab goes with its menu",
         &[
-            SEATED,
-            PRESSES,
-            SURFACE,
-            POSITIONER,
-            GETS,
-            GRABS,
-            MAPS_4,
-            POSITIONER_21,
-            SURFACE_22,
-            GETS_SUBMENU,
-            SUBMENU_MAPS,
-            GOES_OUT,
-            DISMISSES_BOTH,
+            Part::Seated,
+            Part::Presses,
+            Part::Surface,
+            Part::Positioner,
+            Part::Gets,
+            Part::Grabs,
+            Part::MapsPressed,
+            Part::Positioner21,
+            Part::Surface22,
+            Part::GetsSubmenu,
+            Part::SubmenuMapsGrabbing,
+            Part::GoesOut,
+            Part::Own(DISMISSES_BOTH),
         ],
     ),
     (
         "no submenu of a menu without a grab has one",
         &[
-            SEATED,
-            PRESSES,
-            SURFACE,
-            POSITIONER,
-            GETS,
-            MAPS_4,
-            POSITIONER_21,
-            SURFACE_22,
-            GETS_SUBMENU,
-            SUBMENU_REFUSED,
-            GOES_OUT,
-            STAYS_OUTSIDE,
+            Part::Seated,
+            Part::Presses,
+            Part::Surface,
+            Part::Positioner,
+            Part::Gets,
+            Part::MapsPressed,
+            Part::Positioner21,
+            Part::Surface22,
+            Part::GetsSubmenu,
+            Part::Own(SUBMENU_REFUSED),
+            Part::GoesOut,
+            Part::Own(STAYS_OUTSIDE),
         ],
     ),
 ];
@@ -528,77 +534,77 @@ const ENDED: &[Case] = &[
     (
         "one of two popups of the toplevel grabs",
         &[
-            SEATED,
-            PRESSES,
-            SURFACE,
-            POSITIONER,
-            GETS,
-            MAPS_4,
-            POSITIONER_21,
-            SURFACE_22,
-            GETS_BESIDE,
-            SUBMENU_GRABS,
-            BESIDE_PLACED,
-            GOES_OUT,
-            DISMISSES_BESIDE,
+            Part::Seated,
+            Part::Presses,
+            Part::Surface,
+            Part::Positioner,
+            Part::Gets,
+            Part::MapsPressed,
+            Part::Positioner21,
+            Part::Surface22,
+            Part::Own(GETS_BESIDE),
+            Part::SubmenuGrabs,
+            Part::Own(BESIDE_PLACED),
+            Part::GoesOut,
+            Part::Own(DISMISSES_BESIDE),
         ],
     ),
     (
         "a submenu's grab stays where its menu is unmapped",
         &[
-            SEATED,
-            PRESSES,
-            SURFACE,
-            POSITIONER,
-            GETS,
-            GRABS,
-            MAPS_4,
-            POSITIONER_21,
-            SURFACE_22,
-            GETS_SUBMENU,
-            SUBMENU_GRABS,
-            SUBMENU_MAPS,
-            MENU_UNMAPS,
-            GOES_OUT,
-            DISMISSES_UNSEEN,
+            Part::Seated,
+            Part::Presses,
+            Part::Surface,
+            Part::Positioner,
+            Part::Gets,
+            Part::Grabs,
+            Part::MapsPressed,
+            Part::Positioner21,
+            Part::Surface22,
+            Part::GetsSubmenu,
+            Part::SubmenuGrabs,
+            Part::SubmenuMapsGrabbing,
+            Part::Own(MENU_UNMAPS),
+            Part::GoesOut,
+            Part::Own(DISMISSES_UNSEEN),
         ],
     ),
     (
         "a menu's grab stays where its submenu goes",
         &[
-            SEATED,
-            PRESSES,
-            SURFACE,
-            POSITIONER,
-            GETS,
-            GRABS,
-            MAPS_4,
-            POSITIONER_21,
-            SURFACE_22,
-            GETS_SUBMENU,
-            SUBMENU_GRABS,
-            SUBMENU_MAPS,
-            SUBMENU_GOES,
-            GOES_OUT,
-            DISMISSES_MENU,
+            Part::Seated,
+            Part::Presses,
+            Part::Surface,
+            Part::Positioner,
+            Part::Gets,
+            Part::Grabs,
+            Part::MapsPressed,
+            Part::Positioner21,
+            Part::Surface22,
+            Part::GetsSubmenu,
+            Part::SubmenuGrabs,
+            Part::SubmenuMapsGrabbing,
+            Part::Own(SUBMENU_GOES),
+            Part::GoesOut,
+            Part::Own(DISMISSES_MENU),
         ],
     ),
     (
         "no popup of one that was dismissed grabs",
         &[
-            SEATED,
-            PRESSES,
-            RELEASES,
-            SURFACE,
-            POSITIONER,
-            GETS,
-            GRABS,
-            LEAVES,
-            DISMISSES_UNMAPPED,
-            POSITIONER_21,
-            SURFACE_22,
-            GETS_SUBMENU,
-            SUBMENU_DISMISSED_TOO,
+            Part::Seated,
+            Part::Presses,
+            Part::Releases,
+            Part::Surface,
+            Part::Positioner,
+            Part::Gets,
+            Part::Grabs,
+            Part::Leaves,
+            Part::DismissesUnmapped,
+            Part::Positioner21,
+            Part::Surface22,
+            Part::GetsSubmenu,
+            Part::Own(SUBMENU_DISMISSED_TOO),
         ],
     ),
 ];
@@ -606,6 +612,11 @@ const ENDED: &[Case] = &[
 #[test]
 fn presses_dismiss_by_where_as_worked(rt: HostRuntime) {
     assert_eq!(rt; missed_after_toplevel(rt.alloc(), BY_WHERE), None);
+}
+
+#[test]
+fn presses_of_another_toplevel_as_worked(rt: HostRuntime) {
+    assert_eq!(rt; missed_after_toplevel(rt.alloc(), BY_SECOND_TOPLEVEL), None);
 }
 
 #[test]

@@ -1,16 +1,16 @@
 //! A popup of a toplevel: where it stands, and what is painted again as it comes, changes and goes.
 
+use crate::parts::{Case, Part};
 use crate::support::{
-    ATTACH_18, COMMIT_14, DETACH_14, GET_POPUP, PLACED, POPUP, POPUP_MAPS, POSITIONER, RELEASED_18,
-    SURFACE, missed_after_toplevel,
+    ATTACH_18, COMMIT_14, DETACH_14, GET_POPUP, PLACED, RELEASED_18, missed_after_toplevel,
 };
 use test_rows::begun::{ATTACH_10, ATTACH_NONE, COMMIT, CONFIGURED};
-use test_rows::rows::{Case, Message, Pixel, Row};
+use test_rows::rows::{Message, Pixel, Row};
 use wl_session::{Done, Step};
 use wl_wire::Arg;
 
 /// The popup's points are painted, and no others: it stands at (40, 40).
-const POPUP_SHOWS: &[Row] = &[
+pub(crate) const POPUP_SHOWS: &[Row] = &[
     Row::Shows(
         64,
         64,
@@ -130,94 +130,110 @@ const POSITIONER_CHANGES: &[Row] = &[
     Row::Accepts(Message(16, 0, &[]), &[Message(1, 1, &[Arg::Uint(16)])]),
 ];
 
-const CASES: &[Case] = &[
+/// It is shown, changes, and comes back.
+const CHANGES: &[Case] = &[
     (
         "a popup is shown at its place",
-        &[SURFACE, POSITIONER, POPUP, POPUP_MAPS, POPUP_SHOWS],
+        &[
+            Part::Surface,
+            Part::Positioner,
+            Part::Popup,
+            Part::PopupMaps,
+            Part::PopupShows,
+        ],
     ),
     (
         "it goes along with its parent's geometry, and with its parent",
         &[
-            SURFACE,
-            POSITIONER,
-            POPUP,
-            POPUP_MAPS,
-            POPUP_SHOWS,
-            GEOMETRY_MOVES,
-            TOPLEVEL_GOES,
+            Part::Surface,
+            Part::Positioner,
+            Part::Popup,
+            Part::PopupMaps,
+            Part::PopupShows,
+            Part::Own(GEOMETRY_MOVES),
+            Part::Own(TOPLEVEL_GOES),
         ],
     ),
     (
         "damage is that of one tree",
         &[
-            SURFACE,
-            POSITIONER,
-            POPUP,
-            POPUP_MAPS,
-            POPUP_SHOWS,
-            TOPLEVEL_DAMAGED,
-            POPUP_DAMAGED,
+            Part::Surface,
+            Part::Positioner,
+            Part::Popup,
+            Part::PopupMaps,
+            Part::PopupShows,
+            Part::Own(TOPLEVEL_DAMAGED),
+            Part::Own(POPUP_DAMAGED),
         ],
     ),
     (
         "a popup is unmapped and comes back",
         &[
-            SURFACE,
-            POSITIONER,
-            POPUP,
-            POPUP_MAPS,
-            POPUP_SHOWS,
-            POPUP_UNMAPS,
+            Part::Surface,
+            Part::Positioner,
+            Part::Popup,
+            Part::PopupMaps,
+            Part::PopupShows,
+            Part::Own(POPUP_UNMAPS),
         ],
     ),
+];
+
+/// It goes and comes with others, and ends.
+const ENDS: &[Case] = &[
     (
         "with its toplevel it is unmapped and comes back",
         &[
-            SURFACE,
-            POSITIONER,
-            POPUP,
-            POPUP_MAPS,
-            POPUP_SHOWS,
-            TOPLEVEL_UNMAPS,
+            Part::Surface,
+            Part::Positioner,
+            Part::Popup,
+            Part::PopupMaps,
+            Part::PopupShows,
+            Part::Own(TOPLEVEL_UNMAPS),
         ],
     ),
     (
         "a popup goes",
         &[
-            SURFACE,
-            POSITIONER,
-            POPUP,
-            POPUP_MAPS,
-            POPUP_SHOWS,
-            POPUP_GOES,
+            Part::Surface,
+            Part::Positioner,
+            Part::Popup,
+            Part::PopupMaps,
+            Part::PopupShows,
+            Part::Own(POPUP_GOES),
         ],
     ),
     (
         "a popup goes with its client",
         &[
-            SURFACE,
-            POSITIONER,
-            POPUP,
-            POPUP_MAPS,
-            POPUP_SHOWS,
-            CLIENT_GOES,
+            Part::Surface,
+            Part::Positioner,
+            Part::Popup,
+            Part::PopupMaps,
+            Part::PopupShows,
+            Part::Own(CLIENT_GOES),
         ],
     ),
     (
         "a popup has a copy of its positioner",
         &[
-            SURFACE,
-            POSITIONER,
-            &[Row::Sends(GET_POPUP)],
-            POSITIONER_CHANGES,
-            &[Row::Accepts(COMMIT_14, &[PLACED, Message(15, 0, &[Arg::Uint(2)])])],
-            POPUP_MAPS,
-            POPUP_SHOWS,
+            Part::Surface,
+            Part::Positioner,
+            Part::Own(&[Row::Sends(GET_POPUP)]),
+            Part::Own(POSITIONER_CHANGES),
+            Part::Own(&[Row::Accepts(COMMIT_14, &[PLACED, Message(15, 0, &[Arg::Uint(2)])])]),
+            Part::PopupMaps,
+            Part::PopupShows,
         ],
     ),
 ];
 
 #[test]
-fn popups_are_as_worked(rt: HostRuntime) {
-    assert_eq!(rt; missed_after_toplevel(rt.alloc(), CASES), None);
+fn popups_are_shown_as_worked(rt: HostRuntime) {
+    assert_eq!(rt; missed_after_toplevel(rt.alloc(), CHANGES), None);
+}
+
+#[test]
+fn popups_end_as_worked(rt: HostRuntime) {
+    assert_eq!(rt; missed_after_toplevel(rt.alloc(), ENDS), None);
 }

@@ -1,7 +1,8 @@
 //! Requests of popups that are refused: the first error of each, and its text.
 
-use crate::support::{GET_POPUP, POPUP, POSITIONER, SURFACE, missed_after_toplevel};
-use test_rows::rows::{Case, Message, Row};
+use crate::parts::{Case, Part};
+use crate::support::{GET_POPUP, missed_after_toplevel};
+use test_rows::rows::{Message, Row};
 use wl_wire::Arg;
 
 /// The positioner 16 has no size, or no rectangle.
@@ -104,55 +105,88 @@ const NO_METHOD: &[Row] = &[
     Row::ErrorTold(1, 1, b"invalid_method"),
 ];
 
-const CASES: &[Case] = &[
+/// For what its positioner or its parent is.
+const BY_POSITIONER_OR_PARENT: &[Case] = &[
     (
         "a positioner has a size",
-        &[SURFACE, NO_SIZE, INVALID_POSITIONER],
+        &[
+            Part::Surface,
+            Part::Own(NO_SIZE),
+            Part::Own(INVALID_POSITIONER),
+        ],
     ),
     (
         "a positioner has a rectangle",
-        &[SURFACE, NO_RECTANGLE, INVALID_POSITIONER],
+        &[
+            Part::Surface,
+            Part::Own(NO_RECTANGLE),
+            Part::Own(INVALID_POSITIONER),
+        ],
     ),
     (
         "no popup is on nothing",
-        &[SURFACE, POSITIONER, NULL_PARENT],
+        &[Part::Surface, Part::Positioner, Part::Own(NULL_PARENT)],
     ),
-    ("none is on itself", &[SURFACE, POSITIONER, OWN_PARENT]),
+    (
+        "none is on itself",
+        &[Part::Surface, Part::Positioner, Part::Own(OWN_PARENT)],
+    ),
     (
         "none is on an xdg_surface without a role object",
-        &[SURFACE, POSITIONER, BARE_PARENT],
+        &[Part::Surface, Part::Positioner, Part::Own(BARE_PARENT)],
     ),
     (
         "the parent is looked at first",
-        &[SURFACE, NO_SIZE, PARENT_FIRST],
+        &[Part::Surface, Part::Own(NO_SIZE), Part::Own(PARENT_FIRST)],
     ),
+];
+
+/// For what its surface is or was.
+const BY_SURFACE: &[Case] = &[
     (
         "an xdg_surface has one popup",
-        &[SURFACE, POSITIONER, SECOND_POPUP],
+        &[Part::Surface, Part::Positioner, Part::Own(SECOND_POPUP)],
     ),
     (
         "a popup's surface gets no toplevel",
-        &[SURFACE, POSITIONER, OTHER_ROLE],
+        &[Part::Surface, Part::Positioner, Part::Own(OTHER_ROLE)],
     ),
     (
         "it gets another popup",
-        &[SURFACE, POSITIONER, SAME_ROLE, POPUP],
+        &[
+            Part::Surface,
+            Part::Positioner,
+            Part::Own(SAME_ROLE),
+            Part::Popup,
+        ],
     ),
     (
         "an xdg_surface doesn't go before its popup",
-        &[SURFACE, POSITIONER, XDG_SURFACE_FIRST],
+        &[
+            Part::Surface,
+            Part::Positioner,
+            Part::Own(XDG_SURFACE_FIRST),
+        ],
     ),
     (
         "a buffer waits for the configure",
-        &[SURFACE, POSITIONER, BUFFER_FIRST],
+        &[Part::Surface, Part::Positioner, Part::Own(BUFFER_FIRST)],
     ),
     (
         "a popup isn't placed anew at version 1",
-        &[SURFACE, POSITIONER, NO_METHOD],
+        &[Part::Surface, Part::Positioner, Part::Own(NO_METHOD)],
     ),
 ];
 
 #[test]
-fn refused_popups_are_as_worked(rt: HostRuntime) {
-    assert_eq!(rt; missed_after_toplevel(rt.alloc(), CASES), None);
+fn positioners_and_parents_are_refused_as_worked(rt: HostRuntime) {
+    assert_eq!(rt;
+        missed_after_toplevel(rt.alloc(), BY_POSITIONER_OR_PARENT),
+        None
+    );
+}
+
+#[test]
+fn surfaces_are_refused_as_worked(rt: HostRuntime) {
+    assert_eq!(rt; missed_after_toplevel(rt.alloc(), BY_SURFACE), None);
 }

@@ -1,15 +1,15 @@
 //! Popups that are placed anew (xdg-shell.xml, xdg_popup.reposition): what is told of it, and from which commit on they stand there.
 
-use crate::submenus::{ATTACH_25, COMMIT_22, POSITIONER_21};
+use crate::parts::{Case, Part, first_missed};
+use crate::submenus::{ATTACH_25, COMMIT_22};
 use crate::support::{
-    ATTACH_18, COMMIT_14, DETACH_14, GET_POPUP, OUTPUT, PLACED, POPUP, POSITIONER, RELEASED_18,
-    SURFACE,
+    ATTACH_18, COMMIT_14, DETACH_14, GET_POPUP, POSITIONER, RELEASED_18, SURFACE,
 };
 use std::alloc::Global;
 use test_rows::begun::{
     ACKNOWLEDGES, BUFFERS, CONFIGURES, GLOBALS, GLOBALS_4, GREEN, MADE, MAPS, RED_10,
 };
-use test_rows::rows::{Case, Fault, Message, Pixel, REGISTRY, Row, first_missed_case_on};
+use test_rows::rows::{Fault, Message, Pixel, REGISTRY, Row};
 use wl_session::Fed;
 use wl_wire::Arg;
 
@@ -32,11 +32,11 @@ const SHOWN: &[&[Row]] = &[
 
 /// The first of the cases that isn't as wanted after the toplevel was painted and the positioner made, and what wasn't.
 fn missed(alloc: Global, cases: &[Case]) -> Option<(usize, Fault)> {
-    first_missed_case_on(alloc, &OUTPUT, SHOWN, cases)
+    first_missed(alloc, SHOWN, cases)
 }
 
 /// The popup 17 is mapped with the green buffer 18 of 8 by 8 pixels, and painted at (40, 40).
-const POPUP_SHOWS: &[Row] = &[
+pub(crate) const POPUP_SHOWS: &[Row] = &[
     Row::Sends(Message(15, 4, &[Arg::Uint(2)])),
     Row::Sends(Message(
         9,
@@ -99,7 +99,7 @@ const ACK_3: Message = Message(15, 4, &[Arg::Uint(3)]);
 const ACK_4: Message = Message(15, 4, &[Arg::Uint(4)]);
 
 /// It is placed anew 8 pixels farther to the left and up.
-const PLACED_ANEW: &[Row] = &[
+pub(crate) const PLACED_ANEW: &[Row] = &[
     Row::Sends(OFFSET_8),
     Row::Accepts(
         REPOSITION_77,
@@ -109,7 +109,7 @@ const PLACED_ANEW: &[Row] = &[
 ];
 
 /// And once more.
-const PLACED_AGAIN: &[Row] = &[
+pub(crate) const PLACED_AGAIN: &[Row] = &[
     Row::Sends(OFFSET_16),
     Row::Accepts(
         REPOSITION_78,
@@ -178,25 +178,41 @@ const THE_LATEST: &[Row] = &[
 const PLACES: &[Case] = &[
     (
         "from the commit after the acknowledgement on",
-        &[POPUP, POPUP_SHOWS, PLACED_ANEW, FROM_THE_COMMIT_ON],
+        &[
+            Part::Popup,
+            Part::GreenPopup,
+            Part::PlacedAnew,
+            Part::Own(FROM_THE_COMMIT_ON),
+        ],
     ),
     (
         "not from a commit before it",
-        &[POPUP, POPUP_SHOWS, PLACED_ANEW, COMMITTED_FIRST],
+        &[
+            Part::Popup,
+            Part::GreenPopup,
+            Part::PlacedAnew,
+            Part::Own(COMMITTED_FIRST),
+        ],
     ),
     (
         "acknowledged with a later one",
         &[
-            POPUP,
-            POPUP_SHOWS,
-            PLACED_ANEW,
-            PLACED_AGAIN,
-            WITH_A_LATER_ONE,
+            Part::Popup,
+            Part::GreenPopup,
+            Part::PlacedAnew,
+            Part::PlacedAgain,
+            Part::Own(WITH_A_LATER_ONE),
         ],
     ),
     (
         "the latest of two that were acknowledged",
-        &[POPUP, POPUP_SHOWS, PLACED_ANEW, PLACED_AGAIN, THE_LATEST],
+        &[
+            Part::Popup,
+            Part::GreenPopup,
+            Part::PlacedAnew,
+            Part::PlacedAgain,
+            Part::Own(THE_LATEST),
+        ],
     ),
 ];
 
@@ -240,15 +256,33 @@ const FORGOTTEN: &[Row] = &[
 const IN_TURN: &[Case] = &[
     (
         "one by one",
-        &[POPUP, POPUP_SHOWS, PLACED_ANEW, PLACED_AGAIN, ONE_BY_ONE],
+        &[
+            Part::Popup,
+            Part::GreenPopup,
+            Part::PlacedAnew,
+            Part::PlacedAgain,
+            Part::Own(ONE_BY_ONE),
+        ],
     ),
     (
         "a commit that unmaps forgets an acknowledged one",
-        &[POPUP, POPUP_SHOWS, PLACED_ANEW, PLACED_AGAIN, UNMAPPED],
+        &[
+            Part::Popup,
+            Part::GreenPopup,
+            Part::PlacedAnew,
+            Part::PlacedAgain,
+            Part::Own(UNMAPPED),
+        ],
     ),
     (
         "and one that isn't acknowledged",
-        &[POPUP, POPUP_SHOWS, PLACED_ANEW, PLACED_AGAIN, FORGOTTEN],
+        &[
+            Part::Popup,
+            Part::GreenPopup,
+            Part::PlacedAnew,
+            Part::PlacedAgain,
+            Part::Own(FORGOTTEN),
+        ],
     ),
 ];
 
@@ -313,30 +347,39 @@ const UNMAPPED_YET: &[Case] = &[
     (
         "before it is mapped",
         &[
-            POPUP,
-            PLACED_ANEW,
-            &[Row::Sends(ACK_3)],
-            MAPPED_LATER,
-            MAPPED_THERE,
+            Part::Popup,
+            Part::PlacedAnew,
+            Part::Own(&[Row::Sends(ACK_3)]),
+            Part::Own(MAPPED_LATER),
+            Part::Own(MAPPED_THERE),
         ],
     ),
     (
         "acknowledged after it is mapped",
         &[
-            POPUP,
-            PLACED_ANEW,
-            &[Row::Sends(ACK_2)],
-            MAPPED_LATER,
-            MAPPED_BEFORE,
+            Part::Popup,
+            Part::PlacedAnew,
+            Part::Own(&[Row::Sends(ACK_2)]),
+            Part::Own(MAPPED_LATER),
+            Part::Own(MAPPED_BEFORE),
         ],
     ),
     (
         "before its first commit",
-        &[BEFORE_ITS_COMMIT, MAPPED_LATER, MAPPED_THERE],
+        &[
+            Part::Own(BEFORE_ITS_COMMIT),
+            Part::Own(MAPPED_LATER),
+            Part::Own(MAPPED_THERE),
+        ],
     ),
     (
         "by a positioner that goes",
-        &[POPUP, POPUP_SHOWS, PLACED_ANEW, POSITIONER_GOES],
+        &[
+            Part::Popup,
+            Part::GreenPopup,
+            Part::PlacedAnew,
+            Part::Own(POSITIONER_GOES),
+        ],
     ),
 ];
 
@@ -401,26 +444,41 @@ const STOOD: &[Row] = &[
 const GONE: &[Case] = &[
     (
         "one that was dismissed",
-        &[POPUP, POPUP_SHOWS, DISMISSED, PLACED_IN_VAIN],
+        &[
+            Part::Popup,
+            Part::GreenPopup,
+            Part::Own(DISMISSED),
+            Part::Own(PLACED_IN_VAIN),
+        ],
     ),
     (
         "by an incomplete positioner",
-        &[POPUP, POPUP_SHOWS, DISMISSED, INCOMPLETE],
+        &[
+            Part::Popup,
+            Part::GreenPopup,
+            Part::Own(DISMISSED),
+            Part::Own(INCOMPLETE),
+        ],
     ),
     (
         "the sides of its buffer",
-        &[POPUP, POPUP_SHOWS, DISMISSED, SIZE_OF_DISMISSED],
+        &[
+            Part::Popup,
+            Part::GreenPopup,
+            Part::Own(DISMISSED),
+            Part::Own(SIZE_OF_DISMISSED),
+        ],
     ),
     (
         "its own popups are placed by where it stood",
         &[
-            POPUP,
-            POPUP_SHOWS,
-            PLACED_ANEW,
-            &[Row::Sends(ACK_3)],
-            DISMISSED,
-            POSITIONER_21,
-            STOOD,
+            Part::Popup,
+            Part::GreenPopup,
+            Part::PlacedAnew,
+            Part::Own(&[Row::Sends(ACK_3)]),
+            Part::Own(DISMISSED),
+            Part::Positioner21,
+            Part::Own(STOOD),
         ],
     ),
 ];
@@ -442,15 +500,15 @@ const CONFIGURE_65: &[Row] = &[
 const REFUSED: &[Case] = &[
     (
         "by an incomplete positioner",
-        &[POPUP, POPUP_SHOWS, INCOMPLETE],
+        &[Part::Popup, Part::GreenPopup, Part::Own(INCOMPLETE)],
     ),
     (
         "before its first commit",
-        &[&[Row::Sends(GET_POPUP)], INCOMPLETE],
+        &[Part::Own(&[Row::Sends(GET_POPUP)]), Part::Own(INCOMPLETE)],
     ),
     (
         "at most 64 configures wait",
-        &[POPUP, POPUP_SHOWS, CONFIGURE_65],
+        &[Part::Popup, Part::GreenPopup, Part::Own(CONFIGURE_65)],
     ),
 ];
 
@@ -482,21 +540,39 @@ const NOT_REACTIVE: &[Row] = &[
 const EARLIER: &[Case] = &[
     (
         "at version 1",
-        &[GLOBALS, MADE, SURFACE, POSITIONER, NO_REPOSITION],
+        &[
+            Part::Own(GLOBALS),
+            Part::Own(MADE),
+            Part::Surface,
+            Part::Positioner,
+            Part::Own(NO_REPOSITION),
+        ],
     ),
     (
         "at version 2",
-        &[GLOBALS_2, MADE, SURFACE, POSITIONER, NO_REPOSITION],
+        &[
+            Part::Own(GLOBALS_2),
+            Part::Own(MADE),
+            Part::Surface,
+            Part::Positioner,
+            Part::Own(NO_REPOSITION),
+        ],
     ),
     (
         "set_reactive at version 2",
-        &[GLOBALS_2, MADE, SURFACE, POSITIONER, NOT_REACTIVE],
+        &[
+            Part::Own(GLOBALS_2),
+            Part::Own(MADE),
+            Part::Surface,
+            Part::Positioner,
+            Part::Own(NOT_REACTIVE),
+        ],
     ),
 ];
 
 /// The first of the cases that isn't as wanted after the registry was told, and what wasn't.
 fn missed_after_registry(alloc: Global, cases: &[Case]) -> Option<(usize, Fault)> {
-    first_missed_case_on(alloc, &OUTPUT, &[REGISTRY], cases)
+    first_missed(alloc, &[REGISTRY], cases)
 }
 
 #[test]
@@ -596,11 +672,23 @@ const SUBMENU_MOVES: &[Row] = &[
 const SUBMENUS: &[Case] = &[
     (
         "a submenu goes along",
-        &[POPUP, POPUP_SHOWS, POSITIONER_21, SUBMENU, BOTH_MOVE],
+        &[
+            Part::Popup,
+            Part::GreenPopup,
+            Part::Positioner21,
+            Part::Own(SUBMENU),
+            Part::Own(BOTH_MOVE),
+        ],
     ),
     (
         "a submenu moves alone",
-        &[POPUP, POPUP_SHOWS, POSITIONER_21, SUBMENU, SUBMENU_MOVES],
+        &[
+            Part::Popup,
+            Part::GreenPopup,
+            Part::Positioner21,
+            Part::Own(SUBMENU),
+            Part::Own(SUBMENU_MOVES),
+        ],
     ),
 ];
 

@@ -1,13 +1,14 @@
 //! Grabs beside another client: a press of its windows dismisses, and no client grabs while another does (xdg-shell.xml, xdg_popup.grab).
 
-use crate::support::{OUTPUT, SHOWN};
-use test_rows::begun::{GREEN, SEATED, SECOND};
-use test_rows::rows::{Case, Message, Pixel, Row, first_missed_case_on};
+use crate::parts::{Case, Part};
+use crate::support::missed_after_toplevel;
+use test_rows::begun::GREEN;
+use test_rows::rows::{Message, Pixel, Row};
 use wl_session::{Done, Step};
 use wl_wire::{Arg, Fixed};
 
 /// The client 2 shows a green window at (32, 32), above that of the client 1, which is red at (0, 0).
-const SHOWS_SECOND: &[Row] = &[
+pub(crate) const SHOWS_SECOND: &[Row] = &[
     Row::From(
         2,
         Message(
@@ -38,7 +39,7 @@ const SHOWS_SECOND: &[Row] = &[
 ];
 
 /// It has the wl_seat 12 and the wl_pointer 13 too.
-const SECOND_SEATED: &[Row] = &[
+pub(crate) const SECOND_SEATED: &[Row] = &[
     Row::From(
         2,
         Message(
@@ -116,7 +117,7 @@ const ENTERED_BY_13: Message = Message(
 );
 
 /// The window of the client 2 is pressed.
-const PRESSES_SECOND: &[Row] = &[
+pub(crate) const PRESSES_SECOND: &[Row] = &[
     TO_SECOND,
     Row::ToldOf(2, &[ENTERED_BY_13]),
     PRESS,
@@ -124,7 +125,7 @@ const PRESSES_SECOND: &[Row] = &[
 ];
 
 /// The client 2 makes the popup 17 of the surface 14, 8 by 8 pixels and 24 to the left and up of its window.
-const SECOND_GETS: &[Row] = &[
+pub(crate) const SECOND_GETS: &[Row] = &[
     Row::From(2, Message(3, 0, &[Arg::NewId(14)])),
     Row::From(2, Message(5, 2, &[Arg::NewId(15), Arg::Object(14)])),
     Row::From(2, Message(5, 1, &[Arg::NewId(16)])),
@@ -143,13 +144,13 @@ const SECOND_GETS: &[Row] = &[
 ];
 
 /// It grabs with the serial of the press.
-const SECOND_GRABS: &[Row] = &[
+pub(crate) const SECOND_GRABS: &[Row] = &[
     Row::From(2, Message(17, 1, &[Arg::Object(12), Arg::Uint(3)])),
     Row::ToldOf(2, &[]),
 ];
 
 /// It is mapped at (8, 8), and the button is released.
-const SECOND_MAPS: &[Row] = &[
+pub(crate) const SECOND_MAPS: &[Row] = &[
     Row::From(2, Message(14, 6, &[])),
     Row::ToldOf(
         2,
@@ -310,7 +311,7 @@ const DISMISSED_BY_UNTOLD: &[Row] = &[
 ];
 
 /// The client 1 is clicked first, with the serials 3 and 4, and its toplevel is raised; and left, with the serial 5.
-const CLICKS_FIRST: &[Row] = &[
+pub(crate) const CLICKS_FIRST: &[Row] = &[
     TO_FIRST,
     Row::TakesOf(1),
     PRESS,
@@ -321,7 +322,7 @@ const CLICKS_FIRST: &[Row] = &[
 ];
 
 /// Then the client 2 is: its window is raised again.
-const PRESSES_NEXT: &[Row] = &[
+pub(crate) const PRESSES_NEXT: &[Row] = &[
     TO_SECOND,
     Row::ToldOf(1, &[Message(13, 1, &[Arg::Uint(5), Arg::Object(6)])]),
     Row::ToldOf(2, &[ENTERED_BY_13]),
@@ -331,7 +332,7 @@ const PRESSES_NEXT: &[Row] = &[
 ];
 
 /// The client 1 makes a popup 17 of its own surface 14, of 8 by 8 pixels at the lower right corner.
-const FIRST_GETS: &[Row] = &[
+pub(crate) const FIRST_GETS: &[Row] = &[
     Row::Sends(Message(3, 0, &[Arg::NewId(14)])),
     Row::Sends(Message(5, 2, &[Arg::NewId(15), Arg::Object(14)])),
     Row::Sends(Message(5, 1, &[Arg::NewId(16)])),
@@ -378,29 +379,29 @@ const FREED: &[Case] = &[
     (
         "a press where nothing is",
         &[
-            SEATED,
-            SECOND,
-            SHOWS_SECOND,
-            SECOND_SEATED,
-            PRESSES_SECOND,
-            SECOND_GETS,
-            SECOND_GRABS,
-            SECOND_MAPS,
-            DISMISSED_BY_NOTHING,
+            Part::Seated,
+            Part::Second,
+            Part::ShowsSecond,
+            Part::SecondSeated,
+            Part::PressesSecond,
+            Part::SecondGets,
+            Part::SecondGrabs,
+            Part::SecondMaps,
+            Part::Own(DISMISSED_BY_NOTHING),
         ],
     ),
     (
         "the client that grabs goes",
         &[
-            SEATED,
-            SECOND,
-            SHOWS_SECOND,
-            SECOND_SEATED,
-            PRESSES_SECOND,
-            SECOND_GETS,
-            SECOND_GRABS,
-            SECOND_MAPS,
-            SECOND_GOES,
+            Part::Seated,
+            Part::Second,
+            Part::ShowsSecond,
+            Part::SecondSeated,
+            Part::PressesSecond,
+            Part::SecondGets,
+            Part::SecondGrabs,
+            Part::SecondMaps,
+            Part::Own(SECOND_GOES),
         ],
     ),
 ];
@@ -410,28 +411,28 @@ const PRESSED: &[Case] = &[
     (
         "a press of another client's window",
         &[
-            SEATED,
-            SECOND,
-            SHOWS_SECOND,
-            SECOND_SEATED,
-            PRESSES_SECOND,
-            SECOND_GETS,
-            SECOND_GRABS,
-            SECOND_MAPS,
-            DISMISSED_BY_FIRST,
+            Part::Seated,
+            Part::Second,
+            Part::ShowsSecond,
+            Part::SecondSeated,
+            Part::PressesSecond,
+            Part::SecondGets,
+            Part::SecondGrabs,
+            Part::SecondMaps,
+            Part::Own(DISMISSED_BY_FIRST),
         ],
     ),
     (
         "a press of a client's without wl_pointer",
         &[
-            SECOND,
-            SHOWS_SECOND,
-            SECOND_SEATED,
-            PRESSES_SECOND,
-            SECOND_GETS,
-            SECOND_GRABS,
-            SECOND_MAPS,
-            DISMISSED_BY_UNTOLD,
+            Part::Second,
+            Part::ShowsSecond,
+            Part::SecondSeated,
+            Part::PressesSecond,
+            Part::SecondGets,
+            Part::SecondGrabs,
+            Part::SecondMaps,
+            Part::Own(DISMISSED_BY_UNTOLD),
         ],
     ),
 ];
@@ -441,32 +442,32 @@ const HELD: &[Case] = &[
     (
         "no client grabs while another does",
         &[
-            SEATED,
-            SECOND,
-            SHOWS_SECOND,
-            SECOND_SEATED,
-            CLICKS_FIRST,
-            PRESSES_NEXT,
-            SECOND_GETS,
-            SECOND_GRABS,
-            SECOND_MAPS,
-            FIRST_GETS,
-            FIRST_REFUSED,
+            Part::Seated,
+            Part::Second,
+            Part::ShowsSecond,
+            Part::SecondSeated,
+            Part::ClicksFirst,
+            Part::PressesNext,
+            Part::SecondGets,
+            Part::SecondGrabs,
+            Part::SecondMaps,
+            Part::FirstGets,
+            Part::Own(FIRST_REFUSED),
         ],
     ),
     (
         "nor the other while the first does",
         &[
-            SEATED,
-            SECOND,
-            SHOWS_SECOND,
-            SECOND_SEATED,
-            CLICKS_FIRST,
-            PRESSES_NEXT,
-            FIRST_GETS,
-            FIRST_GRABS,
-            SECOND_GETS,
-            SECOND_REFUSED,
+            Part::Seated,
+            Part::Second,
+            Part::ShowsSecond,
+            Part::SecondSeated,
+            Part::ClicksFirst,
+            Part::PressesNext,
+            Part::FirstGets,
+            Part::Own(FIRST_GRABS),
+            Part::SecondGets,
+            Part::Own(SECOND_REFUSED),
         ],
     ),
 ];
@@ -476,65 +477,53 @@ const AFTER: &[Case] = &[
     (
         "it grabs once the other's popup went",
         &[
-            SEATED,
-            SECOND,
-            SHOWS_SECOND,
-            SECOND_SEATED,
-            CLICKS_FIRST,
-            PRESSES_NEXT,
-            SECOND_GETS,
-            SECOND_GRABS,
-            SECOND_DESTROYS,
-            FIRST_GETS,
-            FIRST_GRABS,
+            Part::Seated,
+            Part::Second,
+            Part::ShowsSecond,
+            Part::SecondSeated,
+            Part::ClicksFirst,
+            Part::PressesNext,
+            Part::SecondGets,
+            Part::SecondGrabs,
+            Part::Own(SECOND_DESTROYS),
+            Part::FirstGets,
+            Part::Own(FIRST_GRABS),
         ],
     ),
     (
         "and once the other is gone",
         &[
-            SEATED,
-            SECOND,
-            SHOWS_SECOND,
-            SECOND_SEATED,
-            CLICKS_FIRST,
-            PRESSES_NEXT,
-            SECOND_GETS,
-            SECOND_GRABS,
-            SECOND_ENDS,
-            FIRST_GETS,
-            FIRST_GRABS,
+            Part::Seated,
+            Part::Second,
+            Part::ShowsSecond,
+            Part::SecondSeated,
+            Part::ClicksFirst,
+            Part::PressesNext,
+            Part::SecondGets,
+            Part::SecondGrabs,
+            Part::Own(SECOND_ENDS),
+            Part::FirstGets,
+            Part::Own(FIRST_GRABS),
         ],
     ),
 ];
 
 #[test]
 fn grabs_of_two_clients_end_as_worked(rt: HostRuntime) {
-    assert_eq!(rt;
-        first_missed_case_on(rt.alloc(), &OUTPUT, SHOWN, FREED),
-        None
-    );
+    assert_eq!(rt; missed_after_toplevel(rt.alloc(), FREED), None);
 }
 
 #[test]
 fn presses_over_another_client_are_as_worked(rt: HostRuntime) {
-    assert_eq!(rt;
-        first_missed_case_on(rt.alloc(), &OUTPUT, SHOWN, PRESSED),
-        None
-    );
+    assert_eq!(rt; missed_after_toplevel(rt.alloc(), PRESSED), None);
 }
 
 #[test]
 fn grabs_that_are_held_are_as_worked(rt: HostRuntime) {
-    assert_eq!(rt;
-        first_missed_case_on(rt.alloc(), &OUTPUT, SHOWN, HELD),
-        None
-    );
+    assert_eq!(rt; missed_after_toplevel(rt.alloc(), HELD), None);
 }
 
 #[test]
 fn grabs_after_another_are_as_worked(rt: HostRuntime) {
-    assert_eq!(rt;
-        first_missed_case_on(rt.alloc(), &OUTPUT, SHOWN, AFTER),
-        None
-    );
+    assert_eq!(rt; missed_after_toplevel(rt.alloc(), AFTER), None);
 }

@@ -1,9 +1,8 @@
 //! The windows of the output, read one by one from bottom to top, where there is a popup.
 
-use crate::support::{
-    COMMIT_14, DETACH_14, POPUP, POPUP_MAPS, POSITIONER, SURFACE, missed_after_toplevel,
-};
-use test_rows::rows::{Case, Row};
+use crate::parts::{Case, Part};
+use crate::support::{COMMIT_14, DETACH_14, missed_after_toplevel};
+use test_rows::rows::Row;
 use wl_session::ShownWindow;
 
 /// The window of the toplevel.
@@ -40,13 +39,13 @@ const MENU_UNMAPS: &[Row] = &[
 const CASES: &[Case] = &[(
     "a popup",
     &[
-        SURFACE,
-        POSITIONER,
-        POPUP,
-        ALONE,
-        POPUP_MAPS,
-        WITH_MENU,
-        MENU_UNMAPS,
+        Part::Surface,
+        Part::Positioner,
+        Part::Popup,
+        Part::Own(ALONE),
+        Part::PopupMaps,
+        Part::Own(WITH_MENU),
+        Part::Own(MENU_UNMAPS),
     ],
 )];
 

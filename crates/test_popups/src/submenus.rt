@@ -1,11 +1,9 @@
 //! A popup of a popup, as a submenu is: it stands by its parent, goes with it, and is dismissed before it.
 
-use crate::support::{
-    ATTACH_18, COMMIT_14, DETACH_14, POPUP, POPUP_MAPS, POSITIONER, RELEASED_18, SURFACE,
-    missed_after_toplevel,
-};
+use crate::parts::{Case, Part};
+use crate::support::{ATTACH_18, COMMIT_14, DETACH_14, RELEASED_18, missed_after_toplevel};
 use test_rows::begun::COMMIT;
-use test_rows::rows::{Case, Message, Pixel, Row};
+use test_rows::rows::{Message, Pixel, Row};
 use wl_wire::Arg;
 
 /// The menu is shown.
@@ -24,7 +22,7 @@ pub(crate) const POSITIONER_21: &[Row] = &[
 pub(crate) const COMMIT_22: Message = Message(22, 6, &[]);
 
 /// The surface 22 with its xdg_surface 23 has the popup 24 on that of the surface 14.
-const SUBMENU: &[Row] = &[
+pub(crate) const SUBMENU: &[Row] = &[
     Row::Sends(Message(3, 0, &[Arg::NewId(22)])),
     Row::Sends(Message(5, 2, &[Arg::NewId(23), Arg::Object(22)])),
     Row::Sends(Message(23, 2, &[Arg::NewId(24), Arg::Object(15), Arg::Object(21)])),
@@ -45,7 +43,7 @@ const SUBMENU: &[Row] = &[
 pub(crate) const ATTACH_25: Message = Message(22, 1, &[Arg::Object(25), Arg::Int(0), Arg::Int(0)]);
 
 /// It is mapped and shown at (32, 32), above the toplevel.
-const SUBMENU_MAPS: &[Row] = &[
+pub(crate) const SUBMENU_MAPS: &[Row] = &[
     Row::Sends(Message(23, 4, &[Arg::Uint(3)])),
     Row::Sends(Message(
         9,
@@ -174,122 +172,132 @@ const SUBMENU_OF_DISMISSED: &[Row] = &[
     Row::Shows(0, 0, &[]),
 ];
 
-const CASES: &[Case] = &[
+/// It moves with its parents.
+const MOVES: &[Case] = &[
     (
         "both go along with the toplevel's geometry",
         &[
-            SURFACE,
-            POSITIONER,
-            POPUP,
-            POPUP_MAPS,
-            MENU,
-            POSITIONER_21,
-            SUBMENU,
-            SUBMENU_MAPS,
-            TOPLEVEL_MOVES,
+            Part::Surface,
+            Part::Positioner,
+            Part::Popup,
+            Part::PopupMaps,
+            Part::Own(MENU),
+            Part::Positioner21,
+            Part::Submenu,
+            Part::SubmenuMaps,
+            Part::Own(TOPLEVEL_MOVES),
         ],
     ),
     (
         "the menu's own geometry moves the menu alone",
         &[
-            SURFACE,
-            POSITIONER,
-            POPUP,
-            POPUP_MAPS,
-            MENU,
-            POSITIONER_21,
-            SUBMENU,
-            SUBMENU_MAPS,
-            MENU_MOVES,
+            Part::Surface,
+            Part::Positioner,
+            Part::Popup,
+            Part::PopupMaps,
+            Part::Own(MENU),
+            Part::Positioner21,
+            Part::Submenu,
+            Part::SubmenuMaps,
+            Part::Own(MENU_MOVES),
         ],
     ),
     (
         "the menu's offset moves both",
         &[
-            SURFACE,
-            POSITIONER,
-            POPUP,
-            POPUP_MAPS,
-            MENU,
-            POSITIONER_21,
-            SUBMENU,
-            SUBMENU_MAPS,
-            MENU_IS_OFFSET,
+            Part::Surface,
+            Part::Positioner,
+            Part::Popup,
+            Part::PopupMaps,
+            Part::Own(MENU),
+            Part::Positioner21,
+            Part::Submenu,
+            Part::SubmenuMaps,
+            Part::Own(MENU_IS_OFFSET),
         ],
     ),
+];
+
+/// It is unmapped, dismissed or destroyed.
+const ENDS: &[Case] = &[
     (
         "with the menu its submenu is unmapped and comes back",
         &[
-            SURFACE,
-            POSITIONER,
-            POPUP,
-            POPUP_MAPS,
-            MENU,
-            POSITIONER_21,
-            SUBMENU,
-            SUBMENU_MAPS,
-            MENU_UNMAPS,
+            Part::Surface,
+            Part::Positioner,
+            Part::Popup,
+            Part::PopupMaps,
+            Part::Own(MENU),
+            Part::Positioner21,
+            Part::Submenu,
+            Part::SubmenuMaps,
+            Part::Own(MENU_UNMAPS),
         ],
     ),
     (
         "the newest is dismissed first",
         &[
-            SURFACE,
-            POSITIONER,
-            POPUP,
-            POPUP_MAPS,
-            MENU,
-            POSITIONER_21,
-            SUBMENU,
-            SUBMENU_MAPS,
-            TOPLEVEL_GOES,
+            Part::Surface,
+            Part::Positioner,
+            Part::Popup,
+            Part::PopupMaps,
+            Part::Own(MENU),
+            Part::Positioner21,
+            Part::Submenu,
+            Part::SubmenuMaps,
+            Part::Own(TOPLEVEL_GOES),
         ],
     ),
     (
         "a menu doesn't go before its submenu",
         &[
-            SURFACE,
-            POSITIONER,
-            POPUP,
-            POPUP_MAPS,
-            MENU,
-            POSITIONER_21,
-            SUBMENU,
-            SUBMENU_MAPS,
-            MENU_GOES_FIRST,
+            Part::Surface,
+            Part::Positioner,
+            Part::Popup,
+            Part::PopupMaps,
+            Part::Own(MENU),
+            Part::Positioner21,
+            Part::Submenu,
+            Part::SubmenuMaps,
+            Part::Own(MENU_GOES_FIRST),
         ],
     ),
     (
         "both go in turn",
         &[
-            SURFACE,
-            POSITIONER,
-            POPUP,
-            POPUP_MAPS,
-            MENU,
-            POSITIONER_21,
-            SUBMENU,
-            SUBMENU_MAPS,
-            BOTH_GO,
+            Part::Surface,
+            Part::Positioner,
+            Part::Popup,
+            Part::PopupMaps,
+            Part::Own(MENU),
+            Part::Positioner21,
+            Part::Submenu,
+            Part::SubmenuMaps,
+            Part::Own(BOTH_GO),
         ],
     ),
     (
         "a popup of one that was dismissed is never shown",
         &[
-            SURFACE,
-            POSITIONER,
-            POPUP,
-            POPUP_MAPS,
-            MENU,
-            POSITIONER_21,
-            ON_DISMISSED,
-            SUBMENU,
-            SUBMENU_OF_DISMISSED,
+            Part::Surface,
+            Part::Positioner,
+            Part::Popup,
+            Part::PopupMaps,
+            Part::Own(MENU),
+            Part::Positioner21,
+            Part::Own(ON_DISMISSED),
+            Part::Submenu,
+            Part::Own(SUBMENU_OF_DISMISSED),
         ],
     ),
 ];
 
 #[test]
-fn submenus_are_as_worked(rt: HostRuntime) {
-    assert_eq!(rt; missed_after_toplevel(rt.alloc(), CASES), None);
+fn submenus_move_as_worked(rt: HostRuntime) {
+    assert_eq!(rt; missed_after_toplevel(rt.alloc(), MOVES), None);
+}
+
+#[test]
+fn submenus_end_as_worked(rt: HostRuntime) {
+    assert_eq!(rt; missed_after_toplevel(rt.alloc(), ENDS), None);
 }

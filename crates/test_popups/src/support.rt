@@ -1,8 +1,9 @@
 //! A toplevel with a popup, and a popup of that: what many cases begin with.
 
+use crate::parts::{Case, first_missed};
 use std::alloc::Global;
 use test_rows::begun::{ACKNOWLEDGES, BUFFERS, CONFIGURES, GLOBALS, MADE, MAPS, RED_10};
-use test_rows::rows::{Case, Fault, Message, REGISTRY, Row, first_missed_case_on};
+use test_rows::rows::{Fault, Message, REGISTRY, Row};
 use wl_session::{Config, Rgb};
 use wl_wire::Arg;
 
@@ -101,5 +102,5 @@ pub(crate) const POPUP_MAPS: &[Row] = &[
 
 /// The first of the cases that isn't as wanted after the toplevel was painted, and what wasn't.
 pub(crate) fn missed_after_toplevel(alloc: Global, cases: &[Case]) -> Option<(usize, Fault)> {
-    first_missed_case_on(alloc, &OUTPUT, SHOWN, cases)
+    first_missed(alloc, SHOWN, cases)
 }

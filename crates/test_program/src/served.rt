@@ -6,7 +6,7 @@ use std::io::Write;
 use test_server::memory::{Client, MemoryHub};
 use test_support::FaultyWriter;
 use wl_program::{Fault, Pace, Rate, Schedule, serve_on};
-use wl_server::{Connections, Service};
+use wl_server::{Connections, Recorded, Service};
 use wl_session::Session;
 
 /// wl_display.sync with the new callback 2.
@@ -73,13 +73,18 @@ fn are_answered(hub: &MemoryHub, time: u32) -> bool {
 }
 
 /// Both clients' session over that hub.
-type Served = Service<Global, MemoryHub<'static>, OneFile<'static>>;
+type Served = Service<Global, Vec<u8>, MemoryHub<'static>, OneFile<'static>>;
 
 /// That session before its first turn. None where there is no memory.
 fn begun(alloc: Global) -> Option<Served> {
     let session = Session::new(alloc, SMALL).ok()?;
     let side = OneFile::new("2.1", PIXELS);
-    Some(Service::new(session, hub(alloc)?, side, Vec::new(alloc)))
+    Some(Service::new(
+        Recorded::without(session),
+        hub(alloc)?,
+        side,
+        Vec::new(alloc),
+    ))
 }
 
 /// How serving ends at this pace, where the images are as wanted. None where they aren't.

@@ -11,6 +11,8 @@ mod own;
 #[cfg(test)]
 mod pointer;
 #[cfg(test)]
+mod recordings;
+#[cfg(test)]
 mod serving;
 #[cfg(test)]
 mod slow;

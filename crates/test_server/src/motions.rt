@@ -4,7 +4,7 @@ use crate::memory::{Client, MemoryHub, OneFile};
 use crate::turns::{CONFIG, takes};
 use std::alloc::Global;
 use wl_recording::PointerLine;
-use wl_server::{Connections, Service};
+use wl_server::{Connections, Recorded, Service};
 use wl_session::Session;
 
 /// The globals wl_compositor, wl_shm, xdg_wm_base and wl_seat are bound as 3, 4, 5 and 12, and the wl_pointer 13 is made; a toplevel of the surface 6
@@ -93,7 +93,7 @@ fn taken_in(alloc: Global, turns: u32) -> Option<Vec<u8>> {
     let mut lines = Vec::new(alloc);
     lines.extend_from_slice(LINES).ok()?;
     let session = Session::new(alloc, CONFIG).ok()?;
-    let mut service = Service::new(session, hub, side, lines);
+    let mut service = Service::new(Recorded::without(session), hub, side, lines);
     let mut report = Vec::new(alloc);
     if !takes(&mut service, &mut Connections::new(), 1, turns, &mut report) {
         return None;

@@ -131,7 +131,7 @@ type Slow = Served<SlowHub, OneFile<'static>>;
 
 /// Whether the client that floods stands so.
 fn stands(service: &Slow, wanted: Fed) -> bool {
-    service.session.status(1) == wanted
+    service.recorded.session.status(1) == wanted
 }
 
 /// What is told of two clients that connected.

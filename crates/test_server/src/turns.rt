@@ -3,7 +3,7 @@
 use crate::memory::MemoryHub;
 use std::alloc::Global;
 use wl_recording::SideFiles;
-use wl_server::{Connections, Hub, Service, turn};
+use wl_server::{Connections, Hub, Recorded, Service, turn};
 use wl_session::{Config, Rgb, Session};
 
 pub(crate) const CONFIG: Config = Config {
@@ -13,12 +13,12 @@ pub(crate) const CONFIG: Config = Config {
 };
 
 /// A session that is served over a hub.
-pub(crate) type Served<H, S> = Service<Global, H, S>;
+pub(crate) type Served<H, S> = Service<Global, Vec<u8>, H, S>;
 
 /// A session before its first turn, without pointer lines. None where there is no memory for it.
 pub(crate) fn served<H: Drop, S: Drop>(alloc: Global, hub: H, side: S) -> Option<Served<H, S>> {
     let session = Session::new(alloc, CONFIG).ok()?;
-    Some(Service::new(session, hub, side, Vec::new(alloc)))
+    Some(Service::new(Recorded::without(session), hub, side, Vec::new(alloc)))
 }
 
 /// Whether these turns were taken, from the one up to the other, without images.

@@ -3,7 +3,7 @@
 use crate::memory::{Client, MemoryHub, OneFile};
 use std::alloc::Global;
 use std::io::{self, Write};
-use wl_server::{Connections, Service, TurnError, turn};
+use wl_server::{Connections, Recorded, Service, TurnError, turn};
 use wl_session::{Config, Rgb, Session};
 
 /// A window of 2 by 1 black points: get_registry, binds of wl_compositor, wl_shm and xdg_wm_base, a surface and its toplevel, its first commit,
@@ -37,8 +37,8 @@ const TOLD: &[u8] = b"client 1\nframe 1 2\n";
 
 /// Takes so many bytes, and then fails.
 #[derive(Drop)]
-struct Failing {
-    room: usize,
+pub(crate) struct Failing {
+    pub(crate) room: usize,
 }
 
 impl Write for Failing {
@@ -72,7 +72,8 @@ fn takes<W: Write, P: Write>(
         name: "2.1",
         opened: 0,
     };
-    let mut service = Service::new(session, hub, side, Vec::new(alloc));
+    let recorded: Recorded<Global, Vec<u8>> = Recorded::without(session);
+    let mut service = Service::new(recorded, hub, side, Vec::new(alloc));
     let mut connections = Connections::new();
     for time in 1..turns.saturating_add(1) {
         let answer = turn(&mut service, &mut connections, time, report, ppm);

@@ -156,11 +156,12 @@ const SET_DESYNC: &[Row] = &[
     Row::Shows(1, 1, RED_AT_4),
 ];
 
-/// Placed below its parent it is hidden by it once the parent commits (wayland.xml, wl_subsurface.place_below).
+/// Placed below its parent it is hidden by it once the parent commits (wayland.xml, wl_subsurface.place_below). Its own points alone are painted
+/// again.
 pub(crate) const PLACE_BELOW: &[Row] = &[
     Row::Sends(Message(16, 3, &[Arg::Object(6)])),
     Row::Sends(COMMIT),
-    Row::Shows(16, 1600, ALL_BLACK),
+    Row::Shows(16, 16, ALL_BLACK),
     Row::Waits(1, Some(&[])),
 ];
 
@@ -170,7 +171,7 @@ const DESTROY: &[Row] = &[
     Row::Sends(Message(16, 0, &[])),
     Row::Told(&[Message(1, 1, &[Arg::Uint(16)])]),
     Row::Takes,
-    Row::Shows(16, 1600, ALL_BLACK),
+    Row::Shows(16, 16, ALL_BLACK),
     Row::Sends(Message(14, 1, &[Arg::Object(0), Arg::Int(0), Arg::Int(0)])),
     Row::Sends(COMMIT_14),
     Row::Told(&[Message(20, 0, &[])]),

@@ -10,7 +10,7 @@ use Rattle.spec_desktop.specs.Stacking.{Standing, without_client}
 use Rattle.spec_desktop.specs.declared.answers.Done.{Done}
 use Rattle.spec_desktop.specs.declared.answers.Done.TheVariants as gave
 use Rattle.spec_desktop.specs.declared.answers.Stored.TheVariants as stored
-use Rattle.spec_desktop.specs.Act.{Act, Connect, Feed, Store, Leave, Tick, Send, Close, Motion, Button, IsClosed, IsLeft, IsSent, IsStored, closed_by, lowest}
+use Rattle.spec_desktop.specs.Act.{Act, Connect, Store, Leave, Send, Close, IsClosed, IsLeft, IsSent, IsStored, closed_by, lowest}
 use Rattle.spec_desktop.specs.Desktop.{Desktop, Resident, become, become_by, client_at, resident_of, toplevels_of, with_client, with_number}
 use Rattle.spec_desktop.specs.Happens.{Happens}
 use Rattle.spec_desktop.specs.Settling.{becomes}

@@ -10,7 +10,6 @@ use Rattle.spec_desktop.specs.Told.{Output as Shown}
 use Rattle.wl_client.specs.Agreement.{IsPeer}
 use Rattle.wl_client.specs.View.{ClientView}
 use Rattle.spec_desktop.specs.declared.cause.Cause.{Cause}
-use Rattle.spec_desktop.specs.declared.cause.Cause.TheVariants as cause
 use Rattle.wl_client.specs.declared.outputs.Output.{Output}
 use Rattle.wl_paint.specs.Damage.{Damaged}
 use Rattle.spec_desktop.specs.Windows.{Window}

@@ -1,16 +1,14 @@
 -- What is lent of the windows of the output is painted as the desktop is, and as opaque as said where it is.
 use Rattle.wl_scene.proofs.Stood.{Keeps, keeps}
-use Rattle.std.proofs.Common.{◌≡◌, ℕ, List, [], ◌∷◌, Option, Some, None, refl, ap, sym, subst, ◌∙◌, ℤ}
+use Rattle.std.proofs.Common.{◌≡◌, ℕ, List, [], ◌∷◌, Option, Some, refl, ap, sym, subst, ◌∙◌, ℤ}
 use Rattle.std.specs.Prelude.{fold}
 use Rattle.std.specs.List.{AllByRecursion as Each}
 use Rattle.std.specs.Option.{option_map}
 use Rattle.std.proofs.lemmas.List.Elements.{All-from_recursion, recursion_from_All}
 use Rattle.wl_geom.specs.Region.{Area, Stands as Covers}
 use Rattle.wl_blend.specs.declared.color.Rgb.{Rgb}
-use Rattle.wl_surface.specs.Kept.{Kept, Stands, counting_of}
-use Rattle.wl_surface.specs.State.{History}
-use Rattle.wl_surface.specs.Surface.{Surface}
-use Rattle.wl_surface.specs.Slots.{Slots, StandsAt, kept_at}
+use Rattle.wl_surface.specs.Kept.{Kept, counting_of}
+use Rattle.wl_surface.specs.Slots.{Slots, kept_at}
 use Rattle.wl_surface.specs.Surfaces.{surface_at}
 use Rattle.spec_desktop.specs.Objects.{ById}
 use Rattle.wl_client.specs.View.{ClientView}

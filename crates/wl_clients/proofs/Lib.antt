@@ -28,6 +28,7 @@ pub mod Restacked
 pub mod Rests
 pub mod Said
 pub mod Seats
+mod StayingRows
 pub mod Steps
 pub mod Still
 pub mod Strikes

@@ -1,5 +1,5 @@
 -- Surfaces, windows and toplevels by their numbers and by the ids of their wl_surfaces.
-use Rattle.std.proofs.Common.{◌≡◌, ◌≢◌, ℕ, suc, zero, List, [], ◌∷◌, Bool, true, false, Option, Some, None, map, eq-eqb, eqb-true, refl, ap, ap₂, sym, ◌∙◌}
+use Rattle.std.proofs.Common.{◌≡◌, ◌≢◌, ℕ, suc, zero, List, [], ◌∷◌, Bool, true, false, Option, Some, None, map, eqb-true, refl, ap, ap₂, sym, ◌∙◌}
 use Rattle.std.specs.List.{list_any}
 use Rattle.std.specs.Option.{option_and_then, option_map}
 use Rattle.std.specs.Prelude.{◌==◌, ◌&&◌, ◌||◌, IfNone, IfSome, find, if◌then◌else◌, is_some}

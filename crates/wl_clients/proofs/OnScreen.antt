@@ -1,3 +1,4 @@
+pub mod Added
 pub mod Adding
 pub mod After
 pub mod Alone
@@ -12,6 +13,7 @@ pub mod Fitting
 pub mod Given
 pub mod Gone
 pub mod Holding
+pub mod Least
 pub mod Leaving
 pub mod Lengths
 pub mod Lifted
@@ -21,6 +23,7 @@ pub mod Lookup
 pub mod Marked
 pub mod Numbers
 pub mod Parting
+pub mod Pieces
 pub mod Placing
 pub mod Pressed
 pub mod Raised
@@ -40,6 +43,7 @@ pub mod Shifting
 pub mod ShownDesks
 pub mod Sitting
 pub mod Standings
+pub mod Stays
 pub mod Taking
 pub mod Telling
 pub mod Told

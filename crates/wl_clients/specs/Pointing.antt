@@ -1,5 +1,5 @@
 -- What messages ask of the pointer, what a point hits, and what clients are told of the pointer.
-use Rattle.std.specs.Prelude.{ℕ, ◌≡◌, ◌==◌, ◌&&◌, Bool, List, Option, Some, None}
+use Rattle.std.specs.Prelude.{ℕ, ◌≡◌, List, Option, Some, None}
 use Rattle.wl_client.specs.declared.pointers.PointerEvent.{PointerEvent}
 use Rattle.wl_client.specs.Agreement.{IsPeer}
 use Rattle.wl_client.specs.Pointers.{TellsPointers, pointers_told, serial_after}
@@ -9,7 +9,6 @@ use Rattle.spec_desktop.specs.Peer.{Peer}
 use Rattle.spec_desktop.specs.Objects.{ById}
 use Rattle.spec_desktop.specs.Told.{Said}
 use Rattle.spec_desktop.specs.Windows.{Window}
-use Rattle.wl_scene.specs.declared.stacked.Stacked.{Stacked}
 use Rattle.wl_scene.specs.ByNumbers.{by_numbers}
 use Rattle.spec_desktop.specs.Demand.{Demand}
 use Rattle.spec_desktop.specs.Desktop.{Desktop, Resident}

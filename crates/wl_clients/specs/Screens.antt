@@ -10,7 +10,7 @@ use Rattle.wl_links.specs.Family.{links_in, parents_of, root_by}
 use Rattle.wl_proto.specs.declared.wl_subsurface.WlSubsurfaceRequest.TheVariants as subsurface
 use Rattle.wl_proto.specs.declared.wl_surface.WlSurfaceRequest.TheVariants as surface
 use Rattle.wl_proto.specs.declared.xdg_popup.XdgPopupRequest.TheVariants as popup
-use Rattle.wl_scene.specs.Repaint.{AreTogether, marks_trees, window_has}
+use Rattle.wl_scene.specs.Repaint.{AreTogether, window_has}
 use Rattle.wl_requests.specs.declared.messages.Asked.{Asked}
 use Rattle.wl_requests.specs.declared.messages.Asked.TheVariants as asked
 use Rattle.wl_requests.specs.declared.messages.Kind.{Kind}
@@ -36,6 +36,7 @@ use Rattle.wl_shell.specs.Popups.{popups_of}
 use Rattle.wl_scene.specs.declared.tree_window.TreeWindow.{TreeWindow}
 use Rattle.wl_clients.specs.declared.screen.screens.Screen.{Screen}
 use Rattle.wl_clients.specs.Seats.{IsClearedBy, IsRestacked}
+use Rattle.wl_clients.specs.Staying.{marks_moved}
 use Rattle.wl_clients.specs.View.{pile_of}
 
 -- ---- which tree
@@ -107,10 +108,10 @@ changes_in None = []
 changes_in (Some applied) = applied.changes.items
 
 -- The points that are marked where these windows of a toplevel are kept, and those it had before and has after a message were told: all of
--- those that are kept, where it goes; else what the change of the windows marks tree by tree.
+-- those that are kept, where it goes; else what the change of the windows marks.
 abbrev pub turned_has : {A : Type 0} → Stacking → List TreeWindow → List TreeWindow → List TreeWindow → List (Change A) → ℤ → ℤ → Bool
 turned_has (Out number) kept was is changes x y = list_any (window_has x y) kept
-turned_has stacking kept was is changes x y = marks_trees was is changes x y
+turned_has stacking kept was is changes x y = marks_moved was is changes x y
 
 -- Where there is no such toplevel, none are.
 abbrev pub turned_if :

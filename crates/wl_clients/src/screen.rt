@@ -11,6 +11,7 @@ mod releasing;
 mod roots;
 mod run;
 mod screens;
+mod staying;
 mod touching;
 
 pub use feeding::{Taken, bare, sent, store};

@@ -51,7 +51,7 @@ fn lend_of<'a, A: Allocator + Copy>(
 {
     match resident_of(residents, stacked.client) {
         Some(resident) => {
-            let surfaces = &resident.owned.surfaces.states;
+            let surfaces = resident.owned.surfaces.states();
             lend(stacked, Some(&resident.client), Some(surfaces), nowhere)
         }
         None => lend(stacked, None, None, nowhere),
@@ -76,7 +76,7 @@ impl<'a, A: Allocator> Surfaced for Owners<'a, A> {
         let Some(resident) = resident_of(self.residents, client) else {
             return None;
         };
-        Some(&resident.owned.surfaces.states)
+        Some(resident.owned.surfaces.states())
     }
 }
 

@@ -99,6 +99,7 @@ served-by words found serve same asked = record {
   ppm = asked.ppm ∙ sym (same (codes "ppm"));
   pointer = asked.pointer ∙ sym (same (codes "pointer"));
   viewer = asked.viewer ∙ sym (same (codes "viewer"));
+  record_to = asked.record_to ∙ sym (same (codes "record"));
 }
 
 -- what is wrong with the values that the getters find is wrong with the words

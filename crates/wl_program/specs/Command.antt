@@ -54,6 +54,9 @@ pointer_option = option_named (codes "pointer")
 abbrev pub viewer_option : Rule
 viewer_option = option_named (codes "viewer")
 
+abbrev pub record_option : Rule
+record_option = option_named (codes "record")
+
 -- `[--size WxH] [--ppm FILE] [--dir DIR]`
 abbrev pub with_output : App → App
 with_output a = with_rule (with_rule (with_rule a size_option) ppm_option) dir_option
@@ -62,12 +65,12 @@ with_output a = with_rule (with_rule (with_rule a size_option) ppm_option) dir_o
 abbrev pub replay_command : App
 replay_command = with_output (new_app (codes "replay"))
 
--- `serve --socket PATH --turns N [--rate HZ] [--size WxH] [--ppm FILE] [--dir DIR] [--pointer FILE] [--viewer PATH]`, of which `--turns N` may be left out
--- where the rate is given
+-- `serve --socket PATH --turns N [--rate HZ] [--size WxH] [--ppm FILE] [--dir DIR] [--pointer FILE] [--viewer PATH] [--record FILE]`, of which
+-- `--turns N` may be left out where the rate is given
 abbrev pub serve_command : Bool → App
 serve_command is_paced =
-    with_rule (with_rule (with_output (with_rule (with_rule (with_rule (new_app (codes "serve")) socket_option) (turns_option is_paced)) rate_option))
-    pointer_option) viewer_option
+    with_rule (with_rule (with_rule (with_output (with_rule (with_rule (with_rule (new_app (codes "serve")) socket_option) (turns_option is_paced)) rate_option))
+    pointer_option) viewer_option) record_option
 
 -- `wlframe`, which has a version, and does nothing but by a subcommand
 abbrev pub bare_command : App
@@ -134,6 +137,7 @@ pub record IsServed (value : Text → Option Text) (serve : Serve) : Type 0 wher
   pub ppm : option_map (λ path. path.now) serve.ppm ≡ value (codes "ppm")
   pub pointer : option_map (λ path. path.now) serve.pointer ≡ value (codes "pointer")
   pub viewer : option_map (λ path. path.now) serve.viewer ≡ value (codes "viewer")
+  pub record_to : option_map (λ path. path.now) serve.record ≡ value (codes "record")
 
 -- the subcommand `serve` asks to serve, and the other to replay
 abbrev pub IsAskedBy : Text → (Text → Option Text) → Asked → Type 0

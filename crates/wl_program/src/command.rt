@@ -3,7 +3,7 @@
 ghost use Rattle.std.specs.Prelude.{◌≡◌, ◌≤◌, Bool, ℕ, IfErr, IfOk, IfSome, MatchResult, Some, None, codes, false, map, option_map, string_bytes};
 ghost use Rattle.clap.specs.Words.{app_of, first_value, found_of, new_app, rule_of};
 ghost use Rattle.wl_recording.specs.Line.{number_of};
-ghost use Rattle.wl_program.specs.Command.{AreTurns, Asks, IsAskedBy, IsFaulty, IsGiven, IsRate, IsRefused, IsServed, IsToldAs, bare_command, dir_option, is_paced, is_rate_word, option_named, pointer_option, ppm_option, program, rate_option, replay_command, serve_command, size_option, socket_option, turns_option, viewer_option, with_output};
+ghost use Rattle.wl_program.specs.Command.{AreTurns, Asks, IsAskedBy, IsFaulty, IsGiven, IsRate, IsRefused, IsServed, IsToldAs, bare_command, dir_option, is_paced, is_rate_word, option_named, pointer_option, ppm_option, program, rate_option, record_option, replay_command, serve_command, size_option, socket_option, turns_option, viewer_option, with_output};
 
 use crate::fault::Fault;
 use crate::rate::Rate;
@@ -55,6 +55,8 @@ pub struct Serve<'a> {
     pub pointer: Option<&'a str>,
     /// The path of the socket that a viewer connects to.
     pub viewer: Option<&'a str>,
+    /// The file that gets a recording of what is served.
+    pub record: Option<&'a str>,
 }
 
 /// Why nothing is to be done.
@@ -185,7 +187,8 @@ fn serve_command<'a>(alloc: Global, is_paced: bool) -> Result<Command<'a>, Alloc
         .arg(rate_option(alloc))?;
     with_output(alloc, serve)?
         .arg(pointer_option(alloc))?
-        .arg(viewer_option(alloc))
+        .arg(viewer_option(alloc))?
+        .arg(record_option(alloc))
 }
 
 /// The subcommand with the options of its output: its size, the file of its images, and the folder
@@ -299,6 +302,18 @@ fn viewer_option<'a>(alloc: Global) -> Arg<'a>
     )
 }
 
+fn record_option<'a>(alloc: Global) -> Arg<'a>
+    ensures rule { rule_of result ≡ record_option }
+    ensures own { result.global ≡ false }
+{
+    named_option(
+        alloc,
+        "record",
+        "FILE",
+        "Writes a recording of what is served into this file",
+    )
+}
+
 /// What these matches of the subcommand of this name ask.
 fn asked_of<'a>(name: &str, matches: &ArgMatches<'a>) -> Result<Asked<'a>, CommandError>
     ensures asked { IfOk result (IsAskedBy name.now (first_value (found_of matches.now))) }
@@ -342,6 +357,7 @@ fn serve_of<'a>(matches: &ArgMatches<'a>) -> Result<Serve<'a>, CommandError>
         ppm,
         pointer: matches.get_str("pointer"),
         viewer: matches.get_str("viewer"),
+        record: matches.get_str("record"),
     })
 }
 

@@ -1,6 +1,6 @@
 //! Serving clients.
 
-ghost use Rattle.std.specs.Prelude.{◌≡◌, ◌⊎◌, IfErr, IfOk, IfSome, OnErr, OnOk, is_some};
+ghost use Rattle.std.specs.Prelude.{◌≡◌, ◌⊎◌, ℕ, IfErr, IfOk, IfSome, OnErr, OnOk, is_some};
 ghost use Rattle.spec_desktop.specs.Desktop.{empty};
 ghost use Rattle.wl_replay.specs.Told.{IsFirst};
 ghost use Rattle.wl_server.specs.Agreeing.{Agrees};
@@ -29,7 +29,7 @@ use std::rt::Files;
 use std::time::Clock;
 use wl_recording::SideFiles;
 use wl_replay::Config;
-use wl_server::{Connections, Hub, Service, Session, Shares, SocketHub, Viewing};
+use wl_server::{Connections, Hub, Recorded, Service, Session, Shares, SocketHub, Viewing};
 
 /// Serves the clients that connect to a socket. It is made at its path and stays there.
 pub(crate) fn serve<'a, F: Files + Net + Clock + AllocGlobal, A: Allocator + Copy, W: Write>(
@@ -42,12 +42,13 @@ pub(crate) fn serve<'a, F: Files + Net + Clock + AllocGlobal, A: Allocator + Cop
     ensures failed { IfErr result (λ fault. FailsServing fault serve.entry (W.contents output.old) (W.contents output.new)) }
 {
     let mut ppm = create(files, serve.ppm)?;
+    let record = create(files, serve.record)?;
     let lines = read_pointer(files, alloc, serve.pointer)?;
     let hub = bind(files, serve.socket)?;
     let viewer = bind_viewer(files, serve.viewer)?;
     let side = Folder::new(files, serve.dir);
     let session = session_of(alloc, serve.size)?;
-    let mut service = Service::new(session, hub, side, lines);
+    let mut service = Service::new(recorded(alloc, session, record), hub, side, lines);
     let schedule = Schedule {
         clock: files,
         pace: Pace {
@@ -72,7 +73,22 @@ pub(crate) fn serve<'a, F: Files + Net + Clock + AllocGlobal, A: Allocator + Cop
     }
 }
 
-/// Makes the socket that a viewer connects to, where there is to be one.
+/// A session of which nothing was asked yet, which is recorded where there is a writer.
+fn recorded<A: Allocator + Copy, R: Write>(
+    alloc: A,
+    session: Session<A>,
+    writer: Option<R>,
+) -> Recorded<A, R>
+    requires { (width : ℕ) × (height : ℕ) × Agrees session.desk (empty (record { width = width; height = height })) }
+    ensures { result.session ≡ session }
+{
+    match writer {
+        Some(writer) => Recorded::new(alloc, session, writer),
+        None => Recorded::without(session),
+    }
+}
+
+/// Makes the socket that a viewer connects to, if there is to be one.
 fn bind_viewer<F: Files + Net>(files: &F, path: Option<&str>) -> Result<Option<SocketHub>, Fault>
     ensures asked { IfOk result (λ hub. is_some hub ≡ is_some path.entry) }
     ensures bound { IfOk result (λ hub. IfSome hub (λ h. h ≡ 0)) }
@@ -125,25 +141,31 @@ fn session_of<A: Allocator + Copy>(alloc: A, size: Size) -> Result<Session<A>, F
     }
 }
 
-/// Serves the clients of a hub over their connections: takes the turns 1 to as many as the schedule's pace has, one after another, each at its
-/// time; at a rate with short turns between them, in which clients are served without a frame.
+/// Serves the clients of a hub over their connections. It takes the turns 1 to as many as the
+/// schedule's pace has, one after another, each at its time. At a rate it takes short turns between
+/// them, in which clients are served without a frame.
 ///
-/// Turns begin at most as often as the pace says, and between them it sleeps by the schedule's clock; no clause says how long. `Write` is answered where the
-/// report or the images couldn't be written; then no more turns are taken, and the steps of those that were stand.
-pub fn serve_on<C: Clock, A: Allocator + Copy, H: Hub, S: SideFiles, W: Write, P: Write>(
+/// Turns begin at most as often as the pace says. Between them it sleeps by the schedule's clock;
+/// no clause says how long.
+///
+/// # Errors
+///
+/// `Write` if the report or the images couldn't be written. Then no more turns are taken, and the
+/// steps of those taken stand.
+pub fn serve_on<C: Clock, A: Allocator + Copy, R: Write, H: Hub, S: SideFiles, W: Write, P: Write>(
     schedule: Schedule<'_, C>,
-    service: &mut Service<A, H, S>,
+    service: &mut Service<A, R, H, S>,
     connections: &mut Connections<H::Conn>,
     report: &mut W,
     ppm: &mut Option<P>,
 ) -> Result<(), Fault>
     ensures taken { OnOk result (Tells (AreTurns (ways H.accepts H.reads H.writes H.closes H.fault_count) (files_of S.opens S.gives S.fault_count) schedule.entry.pace.rate schedule.entry.pace.turns
         (serving service.old.hub connections.old service.old.side service.old.waiting) (serving service.new.hub connections.new service.new.side service.new.waiting))
-        service.old.session service.new.session (W.contents report.old) (W.contents report.new)
+        service.old.recorded.session service.new.recorded.session (W.contents report.old) (W.contents report.new)
         (images_in P.contents ppm.old) (images_in P.contents ppm.new)) }
     ensures begun { OnErr result (Takes (BeginsTurns (ways H.accepts H.reads H.writes H.closes H.fault_count) (files_of S.opens S.gives S.fault_count) schedule.entry.pace.rate schedule.entry.pace.turns
         (serving service.old.hub connections.old service.old.side service.old.waiting) (serving service.new.hub connections.new service.new.side service.new.waiting))
-        service.old.session service.new.session) }
+        service.old.recorded.session service.new.recorded.session) }
     ensures failed { IfErr result (λ fault. fault ≡ Fault.Write) }
 {
     let mut timer = Timer::new(schedule.pace.rate);
@@ -170,6 +192,7 @@ pub fn serve_on<C: Clock, A: Allocator + Copy, H: Hub, S: SideFiles, W: Write, P
 pub fn serve_viewed<
     C: Clock,
     A: Allocator + Copy,
+    R: Write,
     H: Hub,
     S: SideFiles,
     V: Hub,
@@ -177,7 +200,7 @@ pub fn serve_viewed<
     P: Write,
 >(
     schedule: Schedule<'_, C>,
-    service: &mut Service<A, H, S>,
+    service: &mut Service<A, R, H, S>,
     connections: &mut Connections<H::Conn>,
     viewing: &mut Viewing<A, V, V::Conn>,
     report: &mut W,
@@ -186,7 +209,7 @@ pub fn serve_viewed<
     ensures taken { OnOk result (Tells (AreViewedTurns (ways H.accepts H.reads H.writes H.closes H.fault_count) (ways V.accepts V.reads V.writes V.closes V.fault_count) (files_of S.opens S.gives S.fault_count) schedule.entry.pace.rate schedule.entry.pace.turns viewing.old.width viewing.old.height
         (serving service.old.hub connections.old service.old.side service.old.waiting, (viewing.old.hub, viewing.old.watcher))
         (serving service.new.hub connections.new service.new.side service.new.waiting, (viewing.new.hub, viewing.new.watcher)))
-        service.old.session service.new.session (W.contents report.old) (W.contents report.new)
+        service.old.recorded.session service.new.recorded.session (W.contents report.old) (W.contents report.new)
         (images_in P.contents ppm.old) (images_in P.contents ppm.new)) }
     ensures failed { IfErr result (λ fault. fault ≡ Fault.Write) }
 {

@@ -28,11 +28,19 @@ use wl_server::{
 const SHORT_TURNS: u32 = 1_000_000;
 
 /// Takes a turn at this time, and at a rate first short turns until it is due.
-pub(crate) fn take_step<C: Clock, A: Allocator + Copy, H: Hub, S: SideFiles, W: Write, P: Write>(
+pub(crate) fn take_step<
+    C: Clock,
+    A: Allocator + Copy,
+    R: Write,
+    H: Hub,
+    S: SideFiles,
+    W: Write,
+    P: Write,
+>(
     schedule: Schedule<'_, C>,
     timer: &mut Timer,
     shares: &mut Shares<'_, C>,
-    service: &mut Service<A, H, S>,
+    service: &mut Service<A, R, H, S>,
     connections: &mut Connections<H::Conn>,
     time: u32,
     report: &mut W,
@@ -40,11 +48,11 @@ pub(crate) fn take_step<C: Clock, A: Allocator + Copy, H: Hub, S: SideFiles, W: 
 ) -> Result<(), Fault>
     ensures taken { OnOk result (Tells (IsStep (ways H.accepts H.reads H.writes H.closes H.fault_count) (files_of S.opens S.gives S.fault_count) schedule.entry.pace.rate time
         (serving service.old.hub connections.old service.old.side service.old.waiting) (serving service.new.hub connections.new service.new.side service.new.waiting))
-        service.old.session service.new.session (W.contents report.old) (W.contents report.new)
+        service.old.recorded.session service.new.recorded.session (W.contents report.old) (W.contents report.new)
         (images_in P.contents ppm.old) (images_in P.contents ppm.new)) }
     ensures begun { OnErr result (Takes (StartsStep (ways H.accepts H.reads H.writes H.closes H.fault_count) (files_of S.opens S.gives S.fault_count) schedule.entry.pace.rate time
         (serving service.old.hub connections.old service.old.side service.old.waiting) (serving service.new.hub connections.new service.new.side service.new.waiting))
-        service.old.session service.new.session) }
+        service.old.recorded.session service.new.recorded.session) }
     ensures failed { IfErr result (λ fault. fault ≡ Fault.Write) }
 {
     match schedule.pace.rate {
@@ -65,22 +73,30 @@ pub(crate) fn take_step<C: Clock, A: Allocator + Copy, H: Hub, S: SideFiles, W: 
 }
 
 /// Takes short turns until the next turn is due.
-fn take_short_turns<C: Clock, A: Allocator + Copy, H: Hub, S: SideFiles, W: Write, P: Write>(
+fn take_short_turns<
+    C: Clock,
+    A: Allocator + Copy,
+    R: Write,
+    H: Hub,
+    S: SideFiles,
+    W: Write,
+    P: Write,
+>(
     clock: &C,
     timer: &mut Timer,
     shares: &mut Shares<'_, C>,
-    service: &mut Service<A, H, S>,
+    service: &mut Service<A, R, H, S>,
     connections: &mut Connections<H::Conn>,
     report: &mut W,
     ppm: &mut Option<P>,
 ) -> Result<(), Fault>
     ensures taken { OnOk result (Tells (AreShortTurns (ways H.accepts H.reads H.writes H.closes H.fault_count) (files_of S.opens S.gives S.fault_count)
         (serving service.old.hub connections.old service.old.side service.old.waiting) (serving service.new.hub connections.new service.new.side service.new.waiting))
-        service.old.session service.new.session (W.contents report.old) (W.contents report.new)
+        service.old.recorded.session service.new.recorded.session (W.contents report.old) (W.contents report.new)
         (images_in P.contents ppm.old) (images_in P.contents ppm.new)) }
     ensures begun { OnErr result (Takes (BeginsShortTurns (ways H.accepts H.reads H.writes H.closes H.fault_count) (files_of S.opens S.gives S.fault_count)
         (serving service.old.hub connections.old service.old.side service.old.waiting) (serving service.new.hub connections.new service.new.side service.new.waiting))
-        service.old.session service.new.session) }
+        service.old.recorded.session service.new.recorded.session) }
     ensures failed { IfErr result (λ fault. fault ≡ Fault.Write) }
 {
     let mut is_busy = connections.have_sent();
@@ -93,21 +109,29 @@ fn take_short_turns<C: Clock, A: Allocator + Copy, H: Hub, S: SideFiles, W: Writ
     Ok(())
 }
 
-/// Takes a short turn, and writes what it reports. True where it found something to do.
-fn take_short_turn<A: Allocator + Copy, H: Hub, S: SideFiles, K: Clock, W: Write, P: Write>(
+/// Takes a short turn, and writes its report. The answer is true if it found something to do.
+fn take_short_turn<
+    A: Allocator + Copy,
+    R: Write,
+    H: Hub,
+    S: SideFiles,
+    K: Clock,
+    W: Write,
+    P: Write,
+>(
     shares: &mut Shares<'_, K>,
-    service: &mut Service<A, H, S>,
+    service: &mut Service<A, R, H, S>,
     connections: &mut Connections<H::Conn>,
     report: &mut W,
     ppm: &mut Option<P>,
 ) -> Result<bool, Fault>
     ensures taken { OnOk result (Tells (IsShortTurn (ways H.accepts H.reads H.writes H.closes H.fault_count) (files_of S.opens S.gives S.fault_count)
         (serving service.old.hub connections.old service.old.side service.old.waiting) (serving service.new.hub connections.new service.new.side service.new.waiting))
-        service.old.session service.new.session (W.contents report.old) (W.contents report.new)
+        service.old.recorded.session service.new.recorded.session (W.contents report.old) (W.contents report.new)
         (images_in P.contents ppm.old) (images_in P.contents ppm.new)) }
     ensures begun { Takes (StartsShortTurn (ways H.accepts H.reads H.writes H.closes H.fault_count) (files_of S.opens S.gives S.fault_count)
         (serving service.old.hub connections.old service.old.side service.old.waiting) (serving service.new.hub connections.new service.new.side service.new.waiting))
-        service.old.session service.new.session }
+        service.old.recorded.session service.new.recorded.session }
     ensures failed { IfErr result (λ fault. fault ≡ Fault.Write) }
 {
     let taken = short_turn(shares, service, connections, report);
@@ -118,9 +142,10 @@ fn take_short_turn<A: Allocator + Copy, H: Hub, S: SideFiles, K: Clock, W: Write
     }
 }
 
-/// Takes a turn at this time, and writes what it reports, so that whoever reads along sees it before the next one.
-fn take_turn<A: Allocator + Copy, H: Hub, S: SideFiles, W: Write, P: Write>(
-    service: &mut Service<A, H, S>,
+/// Takes a turn at this time, in milliseconds, and writes its report, so whoever reads along sees
+/// it before the next turn.
+fn take_turn<A: Allocator + Copy, R: Write, H: Hub, S: SideFiles, W: Write, P: Write>(
+    service: &mut Service<A, R, H, S>,
     connections: &mut Connections<H::Conn>,
     time: u32,
     report: &mut W,
@@ -128,11 +153,11 @@ fn take_turn<A: Allocator + Copy, H: Hub, S: SideFiles, W: Write, P: Write>(
 ) -> Result<(), Fault>
     ensures taken { OnOk result (Tells (IsTurn (ways H.accepts H.reads H.writes H.closes H.fault_count) (files_of S.opens S.gives S.fault_count) time
         (serving service.old.hub connections.old service.old.side service.old.waiting) (serving service.new.hub connections.new service.new.side service.new.waiting))
-        service.old.session service.new.session (W.contents report.old) (W.contents report.new)
+        service.old.recorded.session service.new.recorded.session (W.contents report.old) (W.contents report.new)
         (images_in P.contents ppm.old) (images_in P.contents ppm.new)) }
     ensures begun { Takes (StartsTurn (ways H.accepts H.reads H.writes H.closes H.fault_count) (files_of S.opens S.gives S.fault_count) time
         (serving service.old.hub connections.old service.old.side service.old.waiting) (serving service.new.hub connections.new service.new.side service.new.waiting))
-        service.old.session service.new.session }
+        service.old.recorded.session service.new.recorded.session }
     ensures failed { IfErr result (λ fault. fault ≡ Fault.Write) }
 {
     let taken = turn(service, connections, time, report, ppm);
@@ -143,10 +168,19 @@ fn take_turn<A: Allocator + Copy, H: Hub, S: SideFiles, W: Write, P: Write>(
     }
 }
 
-/// Takes a turn at this time whose clients share the server's time, and writes what it reports, so that whoever reads along sees it before the next one.
-fn take_shared_turn<A: Allocator + Copy, H: Hub, S: SideFiles, K: Clock, W: Write, P: Write>(
+/// Takes a turn at this time, in milliseconds, in which clients share the server's time. It writes
+/// the report, so whoever reads along sees it before the next turn.
+fn take_shared_turn<
+    A: Allocator + Copy,
+    R: Write,
+    H: Hub,
+    S: SideFiles,
+    K: Clock,
+    W: Write,
+    P: Write,
+>(
     shares: &mut Shares<'_, K>,
-    service: &mut Service<A, H, S>,
+    service: &mut Service<A, R, H, S>,
     connections: &mut Connections<H::Conn>,
     time: u32,
     report: &mut W,
@@ -154,11 +188,11 @@ fn take_shared_turn<A: Allocator + Copy, H: Hub, S: SideFiles, K: Clock, W: Writ
 ) -> Result<(), Fault>
     ensures taken { OnOk result (Tells (IsSharedTurn (ways H.accepts H.reads H.writes H.closes H.fault_count) (files_of S.opens S.gives S.fault_count) time
         (serving service.old.hub connections.old service.old.side service.old.waiting) (serving service.new.hub connections.new service.new.side service.new.waiting))
-        service.old.session service.new.session (W.contents report.old) (W.contents report.new)
+        service.old.recorded.session service.new.recorded.session (W.contents report.old) (W.contents report.new)
         (images_in P.contents ppm.old) (images_in P.contents ppm.new)) }
     ensures begun { Takes (StartsSharedTurn (ways H.accepts H.reads H.writes H.closes H.fault_count) (files_of S.opens S.gives S.fault_count) time
         (serving service.old.hub connections.old service.old.side service.old.waiting) (serving service.new.hub connections.new service.new.side service.new.waiting))
-        service.old.session service.new.session }
+        service.old.recorded.session service.new.recorded.session }
     ensures failed { IfErr result (λ fault. fault ≡ Fault.Write) }
 {
     let taken = shared_turn(shares, service, connections, time, report, ppm);
@@ -173,6 +207,7 @@ fn take_shared_turn<A: Allocator + Copy, H: Hub, S: SideFiles, K: Clock, W: Writ
 pub(crate) fn take_viewed_step<
     C: Clock,
     A: Allocator + Copy,
+    R: Write,
     H: Hub,
     S: SideFiles,
     V: Hub,
@@ -182,7 +217,7 @@ pub(crate) fn take_viewed_step<
     schedule: Schedule<'_, C>,
     timer: &mut Timer,
     shares: &mut Shares<'_, C>,
-    service: &mut Service<A, H, S>,
+    service: &mut Service<A, R, H, S>,
     connections: &mut Connections<H::Conn>,
     viewing: &mut Viewing<A, V, V::Conn>,
     time: u32,
@@ -192,7 +227,7 @@ pub(crate) fn take_viewed_step<
     ensures taken { OnOk result (Tells (IsViewedStep (ways H.accepts H.reads H.writes H.closes H.fault_count) (ways V.accepts V.reads V.writes V.closes V.fault_count) (files_of S.opens S.gives S.fault_count) schedule.entry.pace.rate time viewing.old.width viewing.old.height
         (serving service.old.hub connections.old service.old.side service.old.waiting, (viewing.old.hub, viewing.old.watcher))
         (serving service.new.hub connections.new service.new.side service.new.waiting, (viewing.new.hub, viewing.new.watcher)))
-        service.old.session service.new.session (W.contents report.old) (W.contents report.new)
+        service.old.recorded.session service.new.recorded.session (W.contents report.old) (W.contents report.new)
         (images_in P.contents ppm.old) (images_in P.contents ppm.new)) }
     ensures width { viewing.new.width ≡ viewing.old.width }
     ensures height { viewing.new.height ≡ viewing.old.height }
@@ -221,6 +256,7 @@ pub(crate) fn take_viewed_step<
 fn take_short_viewed_turns<
     C: Clock,
     A: Allocator + Copy,
+    R: Write,
     H: Hub,
     S: SideFiles,
     V: Hub,
@@ -230,7 +266,7 @@ fn take_short_viewed_turns<
     clock: &C,
     timer: &mut Timer,
     shares: &mut Shares<'_, C>,
-    service: &mut Service<A, H, S>,
+    service: &mut Service<A, R, H, S>,
     connections: &mut Connections<H::Conn>,
     viewing: &mut Viewing<A, V, V::Conn>,
     time: u32,
@@ -240,7 +276,7 @@ fn take_short_viewed_turns<
     ensures taken { OnOk result (Tells (AreShortViewedTurns (ways H.accepts H.reads H.writes H.closes H.fault_count) (ways V.accepts V.reads V.writes V.closes V.fault_count) (files_of S.opens S.gives S.fault_count) time viewing.old.width viewing.old.height
         (serving service.old.hub connections.old service.old.side service.old.waiting, (viewing.old.hub, viewing.old.watcher))
         (serving service.new.hub connections.new service.new.side service.new.waiting, (viewing.new.hub, viewing.new.watcher)))
-        service.old.session service.new.session (W.contents report.old) (W.contents report.new)
+        service.old.recorded.session service.new.recorded.session (W.contents report.old) (W.contents report.new)
         (images_in P.contents ppm.old) (images_in P.contents ppm.new)) }
     ensures width { viewing.new.width ≡ viewing.old.width }
     ensures height { viewing.new.height ≡ viewing.old.height }
@@ -260,6 +296,7 @@ fn take_short_viewed_turns<
 /// something to do.
 fn take_short_viewed_turn<
     A: Allocator + Copy,
+    R: Write,
     H: Hub,
     S: SideFiles,
     V: Hub,
@@ -268,7 +305,7 @@ fn take_short_viewed_turn<
     P: Write,
 >(
     shares: &mut Shares<'_, K>,
-    service: &mut Service<A, H, S>,
+    service: &mut Service<A, R, H, S>,
     connections: &mut Connections<H::Conn>,
     viewing: &mut Viewing<A, V, V::Conn>,
     time: u32,
@@ -278,7 +315,7 @@ fn take_short_viewed_turn<
     ensures taken { OnOk result (Tells (IsShortViewedTurn (ways H.accepts H.reads H.writes H.closes H.fault_count) (ways V.accepts V.reads V.writes V.closes V.fault_count) (files_of S.opens S.gives S.fault_count) time viewing.old.width viewing.old.height
         (serving service.old.hub connections.old service.old.side service.old.waiting, (viewing.old.hub, viewing.old.watcher))
         (serving service.new.hub connections.new service.new.side service.new.waiting, (viewing.new.hub, viewing.new.watcher)))
-        service.old.session service.new.session (W.contents report.old) (W.contents report.new)
+        service.old.recorded.session service.new.recorded.session (W.contents report.old) (W.contents report.new)
         (images_in P.contents ppm.old) (images_in P.contents ppm.new)) }
     ensures width { viewing.new.width ≡ viewing.old.width }
     ensures height { viewing.new.height ≡ viewing.old.height }
@@ -292,9 +329,17 @@ fn take_short_viewed_turn<
     }
 }
 
-/// Takes a turn with a viewer at this time, and writes what it reports.
-fn take_viewed_turn<A: Allocator + Copy, H: Hub, S: SideFiles, V: Hub, W: Write, P: Write>(
-    service: &mut Service<A, H, S>,
+/// Takes a turn with a viewer at this time, in milliseconds, and writes its report.
+fn take_viewed_turn<
+    A: Allocator + Copy,
+    R: Write,
+    H: Hub,
+    S: SideFiles,
+    V: Hub,
+    W: Write,
+    P: Write,
+>(
+    service: &mut Service<A, R, H, S>,
     connections: &mut Connections<H::Conn>,
     viewing: &mut Viewing<A, V, V::Conn>,
     time: u32,
@@ -304,7 +349,7 @@ fn take_viewed_turn<A: Allocator + Copy, H: Hub, S: SideFiles, V: Hub, W: Write,
     ensures taken { OnOk result (Tells (IsViewedTurn (ways H.accepts H.reads H.writes H.closes H.fault_count) (ways V.accepts V.reads V.writes V.closes V.fault_count) (files_of S.opens S.gives S.fault_count) time viewing.old.width viewing.old.height
         (serving service.old.hub connections.old service.old.side service.old.waiting, (viewing.old.hub, viewing.old.watcher))
         (serving service.new.hub connections.new service.new.side service.new.waiting, (viewing.new.hub, viewing.new.watcher)))
-        service.old.session service.new.session (W.contents report.old) (W.contents report.new)
+        service.old.recorded.session service.new.recorded.session (W.contents report.old) (W.contents report.new)
         (images_in P.contents ppm.old) (images_in P.contents ppm.new)) }
     ensures width { viewing.new.width ≡ viewing.old.width }
     ensures height { viewing.new.height ≡ viewing.old.height }
@@ -322,6 +367,7 @@ fn take_viewed_turn<A: Allocator + Copy, H: Hub, S: SideFiles, V: Hub, W: Write,
 /// time, and writes its report.
 fn take_shared_viewed_turn<
     A: Allocator + Copy,
+    R: Write,
     H: Hub,
     S: SideFiles,
     V: Hub,
@@ -330,7 +376,7 @@ fn take_shared_viewed_turn<
     P: Write,
 >(
     shares: &mut Shares<'_, K>,
-    service: &mut Service<A, H, S>,
+    service: &mut Service<A, R, H, S>,
     connections: &mut Connections<H::Conn>,
     viewing: &mut Viewing<A, V, V::Conn>,
     time: u32,
@@ -340,7 +386,7 @@ fn take_shared_viewed_turn<
     ensures taken { OnOk result (Tells (IsSharedViewedTurn (ways H.accepts H.reads H.writes H.closes H.fault_count) (ways V.accepts V.reads V.writes V.closes V.fault_count) (files_of S.opens S.gives S.fault_count) time viewing.old.width viewing.old.height
         (serving service.old.hub connections.old service.old.side service.old.waiting, (viewing.old.hub, viewing.old.watcher))
         (serving service.new.hub connections.new service.new.side service.new.waiting, (viewing.new.hub, viewing.new.watcher)))
-        service.old.session service.new.session (W.contents report.old) (W.contents report.new)
+        service.old.recorded.session service.new.recorded.session (W.contents report.old) (W.contents report.new)
         (images_in P.contents ppm.old) (images_in P.contents ppm.new)) }
     ensures width { viewing.new.width ≡ viewing.old.width }
     ensures height { viewing.new.height ≡ viewing.old.height }

@@ -3,6 +3,7 @@
 //! to wl_replay, and serving clients to wl_server.
 #![tactic(auto)]
 
+mod copies;
 mod differing;
 mod error;
 mod hex;
@@ -22,6 +23,7 @@ mod side;
 mod word;
 mod writing;
 
+pub use copies::Copies;
 pub use differing::difference;
 pub use error::{ReplayError, Summary};
 pub use image::write_image;

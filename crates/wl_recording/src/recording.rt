@@ -1,16 +1,17 @@
 //! The recording of what a server's clients do.
 
-ghost use Rattle.std.specs.Prelude.{◌≡◌, ◌<◌, ◌≤◌, ◌+◌, ◌-◌, ◌^◌, ◌++◌, ◌∷◌, [], ℕ, List, None, OnOk, Option, Some, drop, false, length, replicate, take};
+ghost use Rattle.std.specs.Prelude.{◌≡◌, ◌<◌, ◌≤◌, ◌+◌, ◌-◌, ◌^◌, ◌++◌, ◌∷◌, [], ℕ, List, None, IfSome, OnOk, Option, Some, drop, false, length, replicate, take};
 ghost use Rattle.std.specs.Io.KnownBytes.{Keeps};
 ghost use Rattle.wl_recording.specs.Line.{Asked, Connect, meaning};
-ghost use Rattle.wl_recording.specs.Recording.{Differs, Feeds, HoldsTo, goes, joined, left, number_of, stores};
+ghost use Rattle.wl_recording.specs.Recording.{Feeds, HoldsTo, Puts, goes, joined, left, number_of, stores};
 
-use crate::differing::difference;
+use crate::copies::Copies;
 use crate::line::Line;
 use crate::place::Place;
 use crate::recorder::Recorder;
 use crate::roster::Roster;
 use crate::writing::PIECE_LIMIT;
+use std::alloc::Allocator;
 use std::io;
 use std::io::{ErrorKind, Write};
 use std::marker::Model;
@@ -18,13 +19,14 @@ use std::marker::Model;
 /// A recording of what a server's clients do. The clients are named by their numbers in its
 /// session. After a write failed nothing more is written.
 #[derive(Drop)]
-pub struct Recording<W> {
+pub struct Recording<A: Allocator, W> {
     recorder: Recorder<W>,
     roster: Roster,
+    copies: Copies<A>,
     has_failed: bool,
 }
 
-impl<W> Model for Recording<W> {
+impl<A: Allocator, W> Model for Recording<A, W> {
     ghost use Rattle.wl_recording.specs.Recording.{Recorded};
 
     ghost Value = { Recorded W };
@@ -32,14 +34,15 @@ impl<W> Model for Recording<W> {
     ghost view = { λ r. record { written = r.recorder; clients = r.roster; has_failed = r.has_failed } };
 }
 
-impl<W: Write> Recording<W> {
+impl<A: Allocator + Copy, W: Write> Recording<A, W> {
     /// Nothing is recorded yet, and nobody is there.
-    pub fn new(writer: W) -> Recording<W>
+    pub fn new(alloc: A, writer: W) -> Recording<A, W>
         ensures { result ≡ record { written = record { writer = writer; lines = 0 }; clients = replicate 32 None; has_failed = false } }
     {
         Recording {
             recorder: Recorder::new(writer),
             roster: Roster::new(),
+            copies: Copies::new(alloc),
             has_failed: false,
         }
     }
@@ -65,22 +68,33 @@ impl<W: Write> Recording<W> {
         }
     }
 
-    /// Bytes come into a client's store that holds these in their place. Written is what differs, from the first byte that does to the last.
-    pub fn store(&mut self, place: &Place, bytes: &[u8], held: &[u8])
+    /// Bytes come into a client's store. Written is what differs from what was put there before, from the first byte that does to the last.
+    pub fn store(&mut self, place: &Place, bytes: &[u8])
         requires short { length bytes.now ≤ PIECE_LIMIT }
-        requires alike { length held.now ≡ length bytes.now }
         requires room { place.now.at + length bytes.now < 2 ^ 32 }
         ensures asked { (first : Option (List ℕ)) (asked : List Asked) → HoldsTo 1000000 W.contents first asked self.old
-            → (from : ℕ) × (to : ℕ) × Differs bytes.now held.now from to
-            × HoldsTo 1000000 W.contents first (asked ++ stores (number_of place.now.client self.old.clients) place.now from (take (to - from) (drop from bytes.now))) self.new }
+            → (more : List Asked) × Puts (number_of place.now.client self.old.clients) place.now bytes.now more × HoldsTo 1000000 W.contents first (asked ++ more) self.new }
         ensures clients { self.new.clients ≡ self.old.clients }
     {
-        let differs = difference(bytes, held);
-        let from = differs.start;
         if let Some(client) = self.roster.number(place.client) {
-            let piece = &bytes[differs];
-            self.store_there(client, place, from, piece);
+            let differs = self.copies.put(place, bytes);
+            let from = differs.start;
+            self.store_there(client, place, from, &bytes[differs]);
         }
+    }
+
+    /// The least number, above this one, of a store of this client that bytes came into.
+    pub fn next_store(&self, client: u32, number: u32) -> Option<u32>
+        ensures { IfSome result (λ next. number < next) }
+    {
+        self.copies.next_store(client, number)
+    }
+
+    /// A store of a client isn't there any more.
+    pub fn forget_store(&mut self, client: u32, store: u32)
+        ensures { self.new ≡ self.old }
+    {
+        self.copies.forget_store(client, store);
     }
 
     /// A client goes. It isn't forgotten yet.
@@ -101,6 +115,7 @@ impl<W: Write> Recording<W> {
         ensures clients { self.new.clients ≡ left client self.old.clients }
     {
         self.roster.leave(client);
+        self.copies.forget(client);
     }
 
     /// The number in the recording of a client of the session.
@@ -125,18 +140,19 @@ impl<W: Write> Recording<W> {
         }
     }
 
-    /// What was written isn't held back any more. An `Err` tells that a write failed.
+    /// What was written isn't held back any more. An `Err` tells that a write failed, then or before.
     pub fn flush(&mut self) -> io::Result<()>
-        ensures written { OnOk result (Keeps (W.contents self.old.written.writer) (W.contents self.new.written.writer)) }
-        ensures lines { self.new.written.lines ≡ self.old.written.lines }
-        ensures whole { OnOk result (self.old.has_failed ≡ false) }
-        ensures has_failed { self.new.has_failed ≡ self.old.has_failed }
+        ensures asked { (first : Option (List ℕ)) (asked : List Asked) → HoldsTo 1000000 W.contents first asked self.old
+            → HoldsTo 1000000 W.contents first asked self.new }
+        ensures whole { OnOk result (self.new.has_failed ≡ false) }
         ensures clients { self.new.clients ≡ self.old.clients }
     {
         if self.has_failed {
             return Err(io::Error::from(ErrorKind::Other));
         }
-        self.recorder.flush()
+        let flushed = self.recorder.flush();
+        self.has_failed = flushed.is_err();
+        flushed
     }
 
     /// Bytes go into a store of a client, by its number in the recording.

@@ -1,7 +1,7 @@
 -- What is kept stands, by the numbers from before, for what a client owns after xdg_popup.destroy.
 use Rattle.std.proofs.Common.{◌≡◌, ℕ, true, Option, Some, None, Result, refl, subst, sym}
 use Rattle.std.specs.Prelude.{Ok}
-use Rattle.wl_surface.specs.declared.surfaces.Surfaces.{Surfaces as KeptSurfaces}
+use Rattle.wl_surface.specs.Linked.{SurfacesView}
 use Rattle.law_desktop.specs.Owning.{IsOwned, IsXdg, with_toplevel}
 use Rattle.law_desktop.specs.RoleNames.{names_of}
 use Rattle.law_desktop.proofs.Keeping.OwningXdg.{toplevel-named}
@@ -43,6 +43,6 @@ popup-left {A} old new judged c r d object number k x h is one its asked keeps l
     let made = (changed_for c (EndPopup object x.id) then (unpointed d)).owned in
     subst (λ (j : Result Demand Refusal). HoldsSo j c r d old new) (sym asked)
     (holds-same old new left made refl
-    (subst (λ (l : KeptSurfaces A). IsOwned left l.states l.family (kept_of new.owned.shell) made) (sym linked)
+    (subst (λ (l : SurfacesView). IsOwned left l.states l.family (kept_of new.owned.shell) made) (sym linked)
     (popups-go.gone names old.owned.surfaces.states old.owned.surfaces.family (kept_of old.owned.shell) then number k x h c object (unpointed d)
     (kept_of new.owned.shell) left is.owns one its keeps refl)))

@@ -16,7 +16,7 @@ use Rattle.spec_desktop.specs.Objects.{Objects, interface_number, is_of, object_
 use Rattle.spec_desktop.specs.Peer.{Errs, Peer, Queues, WantsOr, counted, made, object_at_version, removed}
 use Rattle.spec_desktop.specs.Told.{Said, id_deleted}
 use Rattle.wl_links.specs.Family.{Tied}
-use Rattle.wl_surface.specs.declared.surfaces.Surfaces.{Surfaces as KeptSurfaces}
+use Rattle.wl_surface.specs.Linked.{SurfacesView}
 use Rattle.wl_surface.specs.Slots.{Changes, Numbered, Slots, StandForAll, role_at}
 use Rattle.wl_surface.specs.declared.applied.Applied.{Applied}
 use Rattle.wl_surface.specs.declared.error.SurfaceError.{SurfaceError}
@@ -77,8 +77,8 @@ left-as : {A : Type 0} (old new : Kept A) (r after : Resident) (q : Peer) (objec
     → IsLeft old new after q
 left-as {A} old new r after q object is peer callbacks more surfaces subsurfaces linked kept table owns = record {
   peer = peer;
-  owns = λ alive. subst (λ (l : KeptSurfaces A). IsOwned (names_of new.client.objects) l.states l.family (kept_of new.owned.shell) after.owned) (sym linked) (owns alive);
-  frames = λ alive. subst (λ (l : KeptSurfaces A). IsFramed l.states.frames new.client.objects after) (sym linked)
+  owns = λ alive. subst (λ (l : SurfacesView). IsOwned (names_of new.client.objects) l.states l.family (kept_of new.owned.shell) after.owned) (sym linked) (owns alive);
+  frames = λ alive. subst (λ (l : SurfacesView). IsFramed l.states.frames new.client.objects after) (sym linked)
       (framed-kept old.owned.surfaces.states.frames old.client.objects new.client.objects r after callbacks more is.frames (ap (λ (n : Names). n.surfaces) (table alive)) surfaces);
   subsurfaces = λ alive. rw (kept, subsurfaces)
       (subsurfaces-named old.subsurfaces r.subsurfaces old.client.objects new.client.objects is.subsurfaces (ap (λ (n : Names). n.surfaces) (table alive)));
@@ -170,11 +170,11 @@ popup-ends old new c r d object number k x h is one its gone table keeps linked 
     )
 
 -- nothing of the surfaces is made of it
-pub touched-so : {A : Type 0} (touch : Touch) (number : ℕ) (old new : KeptSurfaces A) (told : Option (Applied A)) → touch ≡ Closes number → new ≡ old
+pub touched-so : {A : Type 0} (touch : Touch) (number : ℕ) (old new : SurfacesView) (told : Option (Applied A)) → touch ≡ Closes number → new ≡ old
     → IfSome told (λ applied. applied.changes.items ≡ []) → IsTouched touch old new told
-touched-so touch number old new told is same none = subst (λ (t : Touch). IsTouched t old new told) (sym is) (at told none)
+touched-so {A} touch number old new told is same none = subst (λ (t : Touch). IsTouched t old new told) (sym is) (at told none)
   where
-    at : (o : Option (Applied _)) → IfSome o (λ applied. applied.changes.items ≡ []) → IsTouched (Closes number) old new o
+    at : (o : Option (Applied A)) → IfSome o (λ applied. applied.changes.items ≡ []) → IsTouched (Closes number) old new o
     at None none = tt
     at (Some applied) none = (same, none)
 
@@ -247,7 +247,7 @@ module _ {A : Type 0} (old gone : Kept A) (w : ClientView) (shell : Book) (c : �
         let slots = old.owned.surfaces.states in
         let tied = old.owned.surfaces.family in
         let was = kept_of gone.owned.shell in
-        let all = subst (λ (l : KeptSurfaces A). IsOwned names_before l.states l.family was (record r.owned { shell = dismissing (go_with x.id r.owned.shell) r.owned.shell })) linked
+        let all = subst (λ (l : SurfacesView). IsOwned names_before l.states l.family was (record r.owned { shell = dismissing (go_with x.id r.owned.shell) r.owned.shell })) linked
         (dismissed.owns alive) in
         let on = subst (λ (b : Bool). IsOwned names_before slots tied was (record r.owned { shell = dismissing (goes_with b x.id) r.owned.shell })) no-popup all in
         let orphans = toplevels-go.orphaned names_before slots tied was (record r.owned { shell = dismissing (goes_with false x.id) r.owned.shell }) x.id number (orphaned (was number) was) on

@@ -10,7 +10,7 @@ use Rattle.wl_proto.specs.Messages.{says}
 use Rattle.spec_desktop.specs.declared.cause.Cause.{Cause}
 use Rattle.spec_desktop.specs.Peer.{Peer, Queues}
 use Rattle.spec_desktop.specs.Told.{Said, said}
-use Rattle.wl_surface.specs.declared.surfaces.Surfaces.{Surfaces as KeptSurfaces}
+use Rattle.wl_surface.specs.Linked.{SurfacesView}
 use Rattle.wl_shell.specs.Found.{AreFound}
 use Rattle.wl_shell.specs.InOrder.{HasOrder, goes_with, newest_first, undismissed, with_dismissed}
 use Rattle.wl_shell.specs.PopupsKept.{IsNewest, dismissible_under}
@@ -171,7 +171,7 @@ module _ {A : Type 0} (names : Names) (xdg : ℕ) (o : Owned) (count : ℕ) (p q
           many = many;
           were = popups-dismissed.on.next is o.shell left gone it.xdg.surface it so.were next.1.next;
           told = told-one (map done_told (undismissed is o.shell)) (map done_told (undismissed is rest)) (done_told it) p q told.0 more alive told.1;
-          owns = subst (λ (l : KeptSurfaces A). IsOwned names l.states l.family (kept_of new.owned.shell) (record o { shell = rest })) (sym linked) owns;
+          owns = subst (λ (l : SurfacesView). IsOwned names l.states l.family (kept_of new.owned.shell) (record o { shell = rest })) (sym linked) owns;
         },
       )
 

@@ -9,7 +9,7 @@ use Rattle.spec_desktop.specs.declared.refusals.Refusal.{Refusal}
 use Rattle.spec_desktop.specs.Objects.{Objects, is_of, object_of}
 use Rattle.spec_desktop.specs.Peer.{Peer, Queues, counted}
 use Rattle.spec_desktop.specs.Told.{Said}
-use Rattle.wl_surface.specs.declared.surfaces.Surfaces.{Surfaces as KeptSurfaces}
+use Rattle.wl_surface.specs.Linked.{SurfacesView}
 use Rattle.wl_surface.specs.State.{History}
 use Rattle.wl_shell.specs.Descent.{has_popup_at}
 use Rattle.wl_shell.specs.Found.{AreFound}
@@ -141,9 +141,9 @@ pub left-still : {A : Type 0} (old new : Kept A) (r after : Resident) (q : Peer)
     → IsLeft old new after q
 left-still {A} old new r after q is peer callbacks more surfaces subsurfaces linked kept table owns = record {
   peer = peer;
-  owns = λ alive. subst (λ (l : KeptSurfaces A). IsOwned (names_of new.client.objects) l.states l.family (kept_of new.owned.shell) after.owned) (sym linked)
+  owns = λ alive. subst (λ (l : SurfacesView). IsOwned (names_of new.client.objects) l.states l.family (kept_of new.owned.shell) after.owned) (sym linked)
       (subst (λ (n : Names). IsOwned n old.owned.surfaces.states old.owned.surfaces.family (kept_of new.owned.shell) after.owned) (sym (table alive)) (owns alive));
-  frames = λ alive. subst (λ (l : KeptSurfaces A). IsFramed l.states.frames new.client.objects after) (sym linked)
+  frames = λ alive. subst (λ (l : SurfacesView). IsFramed l.states.frames new.client.objects after) (sym linked)
       (framed-kept old.owned.surfaces.states.frames old.client.objects new.client.objects r after callbacks more is.frames (ap (λ (n : Names). n.surfaces) (table alive)) surfaces);
   subsurfaces = λ alive. rw (kept, subsurfaces)
       (subsurfaces-named old.subsurfaces r.subsurfaces old.client.objects new.client.objects is.subsurfaces (ap (λ (n : Names). n.surfaces) (table alive)));
@@ -254,7 +254,7 @@ module _ {A : Type 0} (old new : Kept A) (c : ℕ) (r : Resident) (d : Desktop) 
 
     owned-still : IsOwned names_before mid.owned.surfaces.states mid.owned.surfaces.family (kept_of mid.owned.shell) r.owned
     owned-still =
-        subst (λ (l : KeptSurfaces A). IsOwned names_before l.states l.family (kept_of mid.owned.shell) r.owned) (sym stays)
+        subst (λ (l : SurfacesView). IsOwned names_before l.states l.family (kept_of mid.owned.shell) r.owned) (sym stays)
         (subst (λ (ks : ℕ → Option KeptXdg). IsOwned names_before old.owned.surfaces.states old.owned.surfaces.family ks r.owned)
         (sym (keeps ∙ none-taken number (kept_of old.owned.shell))) is.owns)
 
@@ -272,7 +272,7 @@ module _ {A : Type 0} (old new : Kept A) (c : ℕ) (r : Resident) (d : Desktop) 
               (subst (λ (es : List Said). Queues es (counted r.peer) q) (sym its) gone.told)),
           subst (λ (m : Resident). IsLeft old new m q) (sym same)
               (left-still old new r after q is gone.peer refl (one-more r.peer.requests) refl refl linked kept table
-              (λ alive. subst (λ (l : KeptSurfaces A). IsOwned names_before l.states l.family (kept_of new.owned.shell) after.owned) linked
+              (λ alive. subst (λ (l : SurfacesView). IsOwned names_before l.states l.family (kept_of new.owned.shell) after.owned) linked
               (subst
               (λ (b : Bool). IsOwned names_before new.owned.surfaces.states new.owned.surfaces.family (kept_of new.owned.shell)
               (record r.owned { shell = dismissing (goes_with b x.id) r.owned.shell })) refused.2 (gone.owns alive)))),

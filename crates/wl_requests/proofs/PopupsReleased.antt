@@ -12,7 +12,7 @@ use Rattle.spec_desktop.specs.declared.cause.Cause.{Cause}
 use Rattle.spec_desktop.specs.declared.cause.Cause.TheVariants.{Memory, Slow}
 use Rattle.spec_desktop.specs.Peer.{IsUnqueuedFor, Peer, QueuesFirst, QueuesTo, has_room, queued}
 use Rattle.spec_desktop.specs.Told.{Said, said, said_bytes}
-use Rattle.wl_surface.specs.declared.surfaces.Surfaces.{Surfaces as KeptSurfaces}
+use Rattle.wl_surface.specs.Linked.{SurfacesView}
 use Rattle.wl_shell.specs.Found.{AreFound}
 use Rattle.wl_shell.specs.InOrder.{HasOrder, undismissed, with_dismissed}
 use Rattle.wl_shell.specs.PopupsKept.{IsNewest, dismissible_grabbing}
@@ -201,7 +201,7 @@ module _ {A : Type 0} (names : Names) (o : Owned) (count : ℕ) (p q : Peer) (go
 
       owns : IsOwned names new.owned.surfaces.states new.owned.surfaces.family (kept_of new.owned.shell) (record o { shell = rest })
       owns =
-          subst (λ (l : KeptSurfaces A). IsOwned names l.states l.family (kept_of new.owned.shell) (record o { shell = rest })) (sym linked)
+          subst (λ (l : SurfacesView). IsOwned names l.states l.family (kept_of new.owned.shell) (record o { shell = rest })) (sym linked)
           (popups-dismissed.dismissed names now.owned.surfaces.states now.owned.surfaces.family (kept_of book) owned went it (kept_of new.owned.shell) so.owns next.1.next.only next.1.surface
           (keeps ∙ changes))
 

@@ -1,8 +1,7 @@
 -- What a request made of the surfaces of a client that may change what several of them show, and what is told of that (wayland.xml,
 -- wl_surface.commit and destroy; wl_subsurface.set_desync and destroy; xdg-shell.xml, xdg_popup.destroy).
 use Rattle.std.specs.Prelude.{ℕ, ◌≡◌, Option, Some, None, List, []}
-use Rattle.wl_surface.specs.declared.surfaces.Surfaces.{Surfaces as KeptSurfaces}
-use Rattle.wl_surface.specs.Linked.{IsLink, Stand}
+use Rattle.wl_surface.specs.Linked.{IsLink, Stand, SurfacesView}
 use Rattle.wl_surface.specs.Tree.{IsCommitTold, IsDesyncTold, IsEndTold, IsTold}
 use Rattle.law_desktop.specs.Named.{Makes, MakesBy}
 use Rattle.wl_surface.specs.declared.applied.Applied.{Applied}
@@ -32,7 +31,7 @@ surface_of (Releases child) = child
 surface_of (Closes number) = number
 
 -- what it makes of what is kept
-abbrev pub IsMade : {A : Type 0} → Touch → KeptSurfaces A → KeptSurfaces A → Type 0
+abbrev pub IsMade : Touch → SurfacesView → SurfacesView → Type 0
 IsMade (Commits number) old new = Makes old.states old.family new.states new.family (committed_in number)
 IsMade (Destroys number) old new = Makes old.states old.family new.states new.family (destroyed_in number)
 IsMade (Parts child) old new =
@@ -42,7 +41,7 @@ IsMade (Releases child) old new =
 IsMade (Closes number) old new = new ≡ old
 
 -- and what it tells of that
-abbrev pub IsTouchTold : {A : Type 0} → Touch → KeptSurfaces A → List (Change A) → Type 0
+abbrev pub IsTouchTold : {A : Type 0} → Touch → SurfacesView → List (Change A) → Type 0
 IsTouchTold (Commits number) old changes =
     (all : Surfaces) → Stand old.states old.family all → IsCommitTold number all changes
 IsTouchTold (Destroys number) old changes = (all : Surfaces) → Stand old.states old.family all → IsEndTold number all changes
@@ -55,6 +54,6 @@ IsTouchTold (Releases child) old changes =
 IsTouchTold (Closes number) old changes = changes ≡ []
 
 -- Where it was done, this is told of it.
-abbrev pub IsTouched : {A : Type 0} → Touch → KeptSurfaces A → KeptSurfaces A → Option (Applied A) → Type 0
+abbrev pub IsTouched : {A : Type 0} → Touch → SurfacesView → SurfacesView → Option (Applied A) → Type 0
 IsTouched touch old new None = Unit {0}
 IsTouched touch old new (Some applied) = IsMade touch old new × IsTouchTold touch old applied.changes.items

@@ -22,7 +22,7 @@ impl<A: Allocator + Copy> Resident<A> {
             × (self.new.client.ended ≡ None → names_of self.new.client.objects ≡ names_of self.old.client.objects) }
         ensures places { self.new.owned.surfaces.states.places ≡ self.old.owned.surfaces.states.places }
     {
-        while let Some(callback) = self.owned.surfaces.states.next_frame() {
+        while let Some(callback) = self.owned.surfaces.next_frame() {
             self.client.finish(callback, time);
             if self.client.has_ended() {
                 return;

@@ -217,7 +217,7 @@ impl<A: Allocator + Copy> Resident<A> {
             Asked::Own { size, judged } => {
                 let _served = self
                     .client
-                    .serve_own(size, judged, &self.owned.surfaces.states);
+                    .serve_own(size, judged, self.owned.surfaces.states());
                 Some(Outcome::of(Stacking::Stays))
             }
             Asked::Request {

@@ -29,7 +29,7 @@ ghost use Rattle.wl_requests.specs.Residents.{Leaves};
 use crate::residents::Resident;
 use std::alloc::{AllocError, Allocator};
 use wl_client::release_event;
-use wl_surface::{Attached, BufferNo, Told};
+use wl_surface::{Applied, Attached, BufferNo};
 use wl_table::put_rising;
 
 /// Whether these are the same buffer.
@@ -76,7 +76,7 @@ impl<A: Allocator + Copy> Resident<A> {
     fn is_over(&self, buffer: Attached) -> bool
         ensures { (r : Plain) (numbers : ById ℕ) → IsPeer self.now.client r.peer → AreKept numbers self.now.owned.surfaces.states self.now.owned.surfaces.family r.owned.surfaces → result ≡ is_over r (buffer_of buffer) }
     {
-        !self.is_named(buffer) && !self.owned.surfaces.states.is_used(buffer.number)
+        !self.is_named(buffer) && !self.owned.surfaces.is_used(buffer.number)
     }
 
     /// Lets the store of a buffer go that is over, unless it went before.
@@ -140,7 +140,11 @@ impl<A: Allocator + Copy> Resident<A> {
     /// Lets the stores go of buffers that the request freed, if these are over. The answer is the
     /// wl_buffers that are released, by their ids in rising order. `None` without room for the
     /// windows that the request leads to, or without memory: then the client ends as out of memory.
-    pub(crate) fn let_go_of_told(&mut self, told: &Told<A>, has_room: bool) -> Option<Vec<u32, A>>
+    pub(crate) fn let_go_of_told(
+        &mut self,
+        told: &Applied<A>,
+        has_room: bool,
+    ) -> Option<Vec<u32, A>>
         ensures lacks { IfNone result ((p : Peer) → IsPeer self.old.client p → (q : Peer) × LacksMemory p q × IsPeer self.new.client q) }
         ensures ended { IfNone result (is_some self.new.client.ended ≡ true) }
         ensures lets_go { IfSome result (λ released. IsLetGo told.now released.items self.old self.new) }
@@ -153,11 +157,11 @@ impl<A: Allocator + Copy> Resident<A> {
             self.client.lack_memory();
             return None;
         }
-        let Ok(released) = self.released(&told.applied.freed, &told.shown) else {
+        let Ok(released) = self.released(&told.freed, &told.shown) else {
             self.client.lack_memory();
             return None;
         };
-        self.let_go_of_freed(&told.applied.freed, &told.shown);
+        self.let_go_of_freed(&told.freed, &told.shown);
         Some(released)
     }
 

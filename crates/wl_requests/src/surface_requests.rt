@@ -117,7 +117,7 @@ impl<A: Allocator + Copy> Resident<A> {
         ensures holds { IsSurface self.old object surface → kept_of self.old.owned.shell surface ≡ None → (c : ℕ) (r : Plain) (d : Desktop) → IsResident self.old r
             → OwnsOrdered r → is_some result ≡ true → HoldsBy self.old self.new (changed_for c (EndSurface object) r (unpointed d)).owned }
     {
-        let [pending, _, _] = self.owned.surfaces.states.buffers(surface);
+        let [pending, _, _] = self.owned.surfaces.buffers(surface);
         let Ok(told) = self.owned.surfaces.destroy(surface) else {
             self.client.lack_memory();
             return None;
@@ -126,11 +126,10 @@ impl<A: Allocator + Copy> Resident<A> {
         let Some(released) = self.let_go_of_told(&told, has_room) else {
             return None;
         };
-        self.let_go_if_over(pending, is_freed(pending, &told.applied.freed));
-        self.client
-            .remove_with(object, &told.applied.callbacks, None);
+        self.let_go_if_over(pending, is_freed(pending, &told.freed));
+        self.client.remove_with(object, &told.callbacks, None);
         self.tell_releases(&released);
-        Some(told.applied)
+        Some(told)
     }
 
     /// wl_surface.attach of the buffer with this id, or of none for null, at this offset in pixels.
@@ -138,9 +137,9 @@ impl<A: Allocator + Copy> Resident<A> {
         ensures does { (object : ℕ) → IsSurface self.old object surface → Does (λ r. AskSurface object (Attach (buffer_named r buffer) x y)) self.old self.new }
         ensures rest { Leaves self.old self.new }
     {
-        let had = self.owned.surfaces.states.buffers(surface);
+        let had = self.owned.surfaces.buffers(surface);
         let attached = self.attached(buffer);
-        self.owned.surfaces.states.attach(surface, attached, x, y);
+        self.owned.surfaces.attach(surface, attached, x, y);
         self.let_go_of(had);
     }
 
@@ -149,7 +148,7 @@ impl<A: Allocator + Copy> Resident<A> {
         ensures does { (object : ℕ) → IsSurface self.old object surface → Does (λ r. AskSurface object (DamageAsked rect)) self.old self.new }
         ensures rest { Leaves self.old self.new }
     {
-        match self.owned.surfaces.states.damage(surface, rect) {
+        match self.owned.surfaces.damage(surface, rect) {
             Ok(()) => {}
             Err(_) => self.client.lack_memory(),
         }
@@ -160,7 +159,7 @@ impl<A: Allocator + Copy> Resident<A> {
         ensures does { (object : ℕ) → IsSurface self.old object surface → Does (λ r. AskSurface object (BufferDamaged rect)) self.old self.new }
         ensures rest { Leaves self.old self.new }
     {
-        match self.owned.surfaces.states.damage_buffer(surface, rect) {
+        match self.owned.surfaces.damage_buffer(surface, rect) {
             Ok(()) => {}
             Err(_) => self.client.lack_memory(),
         }
@@ -172,7 +171,7 @@ impl<A: Allocator + Copy> Resident<A> {
         ensures rest { Leaves self.old self.new }
     {
         let region = self.client.region(region);
-        match self.owned.surfaces.states.set_opaque(surface, region) {
+        match self.owned.surfaces.set_opaque(surface, region) {
             Ok(()) => {}
             Err(_) => self.client.lack_memory(),
         }
@@ -184,7 +183,7 @@ impl<A: Allocator + Copy> Resident<A> {
         ensures rest { Leaves self.old self.new }
     {
         let region = self.client.region(region);
-        match self.owned.surfaces.states.set_input(surface, region) {
+        match self.owned.surfaces.set_input(surface, region) {
             Ok(()) => {}
             Err(_) => self.client.lack_memory(),
         }
@@ -206,7 +205,7 @@ impl<A: Allocator + Copy> Resident<A> {
         ensures holds { IsSurface self.old object surface
             → HoldsPlaced (is_some result.applied) given.placing (Kind.Surface Commit) object (λ r. commit_demand r object) self.old self.new }
     {
-        let has_buffer = self.owned.surfaces.states.pending_buffer(surface).is_some();
+        let has_buffer = self.owned.surfaces.pending_buffer(surface).is_some();
         let is_toplevel = self.has_toplevel(surface);
         let serial = self.client.serial();
         match self.owned.shell.on_commit(
@@ -217,7 +216,7 @@ impl<A: Allocator + Copy> Resident<A> {
             serial,
         ) {
             Ok(act) => {
-                if !self.owned.surfaces.states.is_whole(surface) {
+                if !self.owned.surfaces.is_whole(surface) {
                     let refusal = Refusal::of(object, ErrorCode::InvalidBufferSize);
                     self.client.refuse(refusal);
                     return Outcome::of(Stacking::Stays);
@@ -273,7 +272,7 @@ impl<A: Allocator + Copy> Resident<A> {
         };
         self.tell_act(surface, act, serial);
         self.tell_releases(&released);
-        Some(told.applied)
+        Some(told)
     }
 
     /// wl_surface.set_buffer_transform to one of the eight.
@@ -282,7 +281,7 @@ impl<A: Allocator + Copy> Resident<A> {
             → Does (λ r. AskSurface object (SetBufferTransform (unsigned_abs transform))) self.old self.new }
         ensures rest { Leaves self.old self.new }
     {
-        match self.owned.surfaces.states.set_transform(surface, transform) {
+        match self.owned.surfaces.set_transform(surface, transform) {
             Ok(()) => {}
             Err(_) => self.client.lack_memory(),
         }
@@ -294,7 +293,7 @@ impl<A: Allocator + Copy> Resident<A> {
             → Does (λ r. AskSurface object (SetBufferScale (unsigned_abs scale))) self.old self.new }
         ensures rest { Leaves self.old self.new }
     {
-        match self.owned.surfaces.states.set_scale(surface, scale) {
+        match self.owned.surfaces.set_scale(surface, scale) {
             Ok(()) => {}
             Err(_) => self.client.lack_memory(),
         }
@@ -369,7 +368,7 @@ impl<A: Allocator + Copy> Resident<A> {
         ensures rest { Leaves self.old self.new }
     {
         self.client.count();
-        match self.owned.surfaces.states.frame(surface, callback) {
+        match self.owned.surfaces.frame(surface, callback) {
             Ok(()) => {
                 let entry = Entry {
                     interface: Interface::WlCallback,

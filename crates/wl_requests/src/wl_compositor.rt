@@ -29,7 +29,7 @@ impl<A: Allocator + Copy> Resident<A> {
         ensures answers { IsFree self.old id → AnswersDemand (λ r. demands (surface_created r id version)) self.old self.new }
         ensures rest { Leaves self.old self.new }
     {
-        match self.owned.surfaces.states.create() {
+        match self.owned.surfaces.create() {
             Ok(surface) => {
                 let entry = Entry {
                     interface: Interface::WlSurface,

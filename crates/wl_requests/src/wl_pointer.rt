@@ -23,7 +23,7 @@ impl<A: Allocator + Copy> Resident<A> {
             self.client.refuse(Refusal::of(object, ErrorCode::Role));
             return;
         }
-        match self.owned.surfaces.states.give_role(surface, Role::Cursor) {
+        match self.owned.surfaces.give_role(surface, Role::Cursor) {
             Ok(()) => self.client.count(),
             Err(_) => self.client.refuse(Refusal::of(object, ErrorCode::Role)),
         }

@@ -47,7 +47,7 @@ impl<A: Allocator + Copy> Resident<A> {
         ensures shell { self.new.owned.shell ≡ self.old.owned.shell }
         ensures frames { self.new.owned.surfaces.states.frames ≡ self.old.owned.surfaces.states.frames }
     {
-        if self.owned.surfaces.family.is_too_deep(child, parent) {
+        if self.owned.surfaces.is_too_deep(child, parent) {
             return Err(SurfaceError::TooDeep);
         }
         if self.subsurfaces.get(child).is_some() || self.owned.shell.get(child).is_some() {

@@ -30,7 +30,7 @@ impl<A: Allocator + Copy> Resident<A> {
         ensures { IsChildOf self.now object result }
     {
         let child = self.subsurfaces.surface_of(object)?;
-        match self.owned.surfaces.family.link(child) {
+        match self.owned.surfaces.link(child) {
             Some(_) => Some(child),
             None => None,
         }
@@ -123,7 +123,7 @@ impl<A: Allocator + Copy> Resident<A> {
             return None;
         };
         self.tell_releases(&released);
-        Some(told.applied)
+        Some(told)
     }
 
     /// Removes a wl_subsurface whose link has ended. Its surface, if that is there, may have
@@ -169,7 +169,7 @@ impl<A: Allocator + Copy> Resident<A> {
         };
         self.client.remove(object);
         self.tell_releases(&released);
-        Some(told.applied)
+        Some(told)
     }
 
     /// A request of a wl_subsurface whose siblings are there.

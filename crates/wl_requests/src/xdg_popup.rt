@@ -48,6 +48,7 @@ impl<A: Allocator + Copy> Resident<A> {
             changes: Vec::new(alloc),
             freed: Vec::new(alloc),
             callbacks: Vec::new(alloc),
+            shown: Vec::new(alloc),
         }
     }
 

@@ -132,14 +132,10 @@ impl<A: Allocator + Copy> Resident<A> {
             → AnswersDemand (λ r. demand_of r object version (xdg_surface_request (GetToplevel id))) self.old self.new }
         ensures rest { Leaves self.old self.new }
     {
-        let has_other_role = is_other_role(self.owned.surfaces.states.role(surface));
+        let has_other_role = is_other_role(self.owned.surfaces.role(surface));
         match self.owned.shell.get_toplevel(surface, id, has_other_role) {
             Ok(()) => {
-                let _given = self
-                    .owned
-                    .surfaces
-                    .states
-                    .give_role(surface, Role::Toplevel);
+                let _given = self.owned.surfaces.give_role(surface, Role::Toplevel);
                 let entry = Entry {
                     interface: Interface::XdgToplevel,
                     version,
@@ -212,7 +208,7 @@ impl<A: Allocator + Copy> Resident<A> {
             → AnswersDemand (λ r. demand_of r object version (xdg_surface_request (GetPopup asked.now.id asked.now.parent asked.now.positioner))) self.old self.new }
         ensures rest { Leaves self.old self.new }
     {
-        let has_other_role = is_not_of_popup(self.owned.surfaces.states.role(surface));
+        let has_other_role = is_not_of_popup(self.owned.surfaces.role(surface));
         let number = self.request_number();
         let positioner = self.positioner_of(asked.positioner);
         let popup = NewPopup {
@@ -231,7 +227,7 @@ impl<A: Allocator + Copy> Resident<A> {
                     self.client.lack_memory();
                     return;
                 }
-                let _given = self.owned.surfaces.states.give_role(surface, Role::Popup);
+                let _given = self.owned.surfaces.give_role(surface, Role::Popup);
                 let entry = Entry {
                     interface: Interface::XdgPopup,
                     version,

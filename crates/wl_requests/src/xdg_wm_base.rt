@@ -107,8 +107,8 @@ impl<A: Allocator + Copy> Resident<A> {
             → AnswersDemand (λ r. demands (xdg_surface_made r object version id named)) self.old self.new }
         ensures rest { Leaves self.old self.new }
     {
-        let has_other_role = is_foreign_role(self.owned.surfaces.states.role(surface));
-        let has_content = self.owned.surfaces.states.has_content(surface);
+        let has_other_role = is_foreign_role(self.owned.surfaces.role(surface));
+        let has_content = self.owned.surfaces.has_content(surface);
         match self
             .owned
             .shell

@@ -105,7 +105,7 @@ fn corner_of<A: Allocator + Copy>(surfaces: &Surfaces<A>, surface: SurfaceNo, pl
     ensures { (all : Asked) → Stand surfaces.now.states surfaces.now.family all
         → place_of result ≡ corner_or (place_of place) (history_in surface all) }
 {
-    match surfaces.states.current(surface) {
+    match surfaces.current(surface) {
         None => place,
         Some(current) => moved(place, current.offset.x, current.offset.y),
     }

@@ -84,7 +84,7 @@ pub(crate) fn window_of<A: Allocator + Copy>(
     ensures { (all : Asked) → Stand surfaces.now.states surfaces.now.family all
         → result ≡ window_at all spot.now.root surface (place_beside spot.now) }
 {
-    let current = surfaces.states.current(surface)?;
+    let current = surfaces.current(surface)?;
     match current.buffer {
         None => None,
         Some(_) => {

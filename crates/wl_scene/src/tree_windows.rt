@@ -103,7 +103,7 @@ fn add_tree<A: Allocator + Copy>(
     let Some(window) = window_of(surfaces, surface, spot) else {
         return Ok(());
     };
-    let stack = surfaces.family.stack(surface);
+    let stack = surfaces.stack(surface);
     if stack.is_empty() {
         windows.push(window)?;
         return Ok(());

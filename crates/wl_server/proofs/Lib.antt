@@ -1,4 +1,6 @@
 pub mod Frames
+pub mod Histories
+pub mod NotedActs
 pub mod Joining
 pub mod Listed
 pub mod Pieces

@@ -6,6 +6,7 @@ pub mod Moves
 pub mod Outcome
 pub mod Phases
 pub mod Ranges
+pub mod Recorded
 pub mod Seats
 pub mod Sharing
 pub mod ShortTurns

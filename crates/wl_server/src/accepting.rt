@@ -9,19 +9,21 @@ ghost use Rattle.wl_server.specs.Ways.{ways};
 
 use crate::error::{TurnError, write_failed};
 use crate::hub::{Hub, HubFault};
+use crate::recorded::Recorded;
 use crate::seat::Seat;
 use std::alloc::Allocator;
 use std::io::Write;
 use wl_recording::write_client;
-use wl_session::{ClientNo, ConnectError, Session};
+use wl_session::{ClientNo, ConnectError};
 
 /// How many connections are accepted in a turn, at most.
 const ACCEPTS: usize = 32;
 
-/// Accepts those that wait, and tells of each that became a client. A fault ends accepting for this turn.
-pub(crate) fn accept_all<A: Allocator + Copy, H: Hub, W: Write>(
+/// Accepts the connections that wait, and reports each that became a client. A fault ends accepting
+/// for this turn.
+pub(crate) fn accept_all<A: Allocator + Copy, R: Write, H: Hub, W: Write>(
     hub: &mut H,
-    session: &mut Session<A>,
+    recorded: &mut Recorded<A, R>,
     seats: &mut [Option<Seat<H::Conn>>],
     accepted: &mut u32,
     report: &mut W,
@@ -29,23 +31,23 @@ pub(crate) fn accept_all<A: Allocator + Copy, H: Hub, W: Write>(
     requires { length seats.old ≡ 32 }
     ensures told { OnOk result (Reports (AcceptsAll (ways H.accepts H.reads H.writes H.closes H.fault_count)
         (hub.old, record { accepted = accepted.old; seats = seats.old }) (hub.new, record { accepted = accepted.new; seats = seats.new }))
-        session.old session.new (W.contents report.old) (W.contents report.new)) }
+        recorded.old.session recorded.new.session (W.contents report.old) (W.contents report.new)) }
     ensures begun { OnErr result (Takes (BeginsAccepting (ways H.accepts H.reads H.writes H.closes H.fault_count)
         (hub.old, record { accepted = accepted.old; seats = seats.old }) (hub.new, record { accepted = accepted.new; seats = seats.new }))
-        session.old session.new) }
+        recorded.old.session recorded.new.session) }
 {
     for before in 0..ACCEPTS {
-        if !accept_one(hub, session, seats, accepted, report)? {
+        if !accept_one(hub, recorded, seats, accepted, report)? {
             return Ok(());
         }
     }
     Ok(())
 }
 
-/// Accepts a connection that waits. False where none is to be accepted any more in this turn.
-fn accept_one<A: Allocator + Copy, H: Hub, W: Write>(
+/// Accepts a connection that waits. The answer is false if no more are to be accepted in this turn.
+fn accept_one<A: Allocator + Copy, R: Write, H: Hub, W: Write>(
     hub: &mut H,
-    session: &mut Session<A>,
+    recorded: &mut Recorded<A, R>,
     seats: &mut [Option<Seat<H::Conn>>],
     accepted: &mut u32,
     report: &mut W,
@@ -53,10 +55,10 @@ fn accept_one<A: Allocator + Copy, H: Hub, W: Write>(
     requires { length seats.old ≡ 32 }
     ensures told { IfOk result (λ more. Reports (AcceptsOne (ways H.accepts H.reads H.writes H.closes H.fault_count) more
         (hub.old, record { accepted = accepted.old; seats = seats.old }) (hub.new, record { accepted = accepted.new; seats = seats.new }))
-        session.old session.new (W.contents report.old) (W.contents report.new)) }
+        recorded.old.session recorded.new.session (W.contents report.old) (W.contents report.new)) }
     ensures taken { OnErr result (Takes (Accepts (ways H.accepts H.reads H.writes H.closes H.fault_count)
         (hub.old, record { accepted = accepted.old; seats = seats.old }) (hub.new, record { accepted = accepted.new; seats = seats.new }))
-        session.old session.new) }
+        recorded.old.session recorded.new.session) }
 {
     if *accepted == u32::MAX {
         return Ok(false);
@@ -67,7 +69,7 @@ fn accept_one<A: Allocator + Copy, H: Hub, W: Write>(
         Err(HubFault) => return Ok(false),
     };
     *accepted += 1;
-    match session.connect() {
+    match recorded.connect() {
         Ok(client) => {
             sit(seats, client, Seat::new(conn, *accepted));
             write_client(client, report).map_err(write_failed)?;

@@ -11,51 +11,53 @@ ghost use Rattle.wl_server.specs.Ways.{ways};
 
 use crate::error::{TurnError, write_failed};
 use crate::hub::Hub;
+use crate::recorded::Recorded;
 use crate::seat::Seat;
 use std::alloc::Allocator;
 use std::io::Write;
 use wl_recording::write_end;
 use wl_session::{ClientNo, Fed, Session};
 
-/// Closes each client that ended, once its bytes went out or a write to it failed, and tells of it.
-pub(crate) fn close_all<A: Allocator + Copy, H: Hub, W: Write>(
+/// Closes each client that ended, once its bytes went out or a write to it failed, and reports it.
+pub(crate) fn close_all<A: Allocator + Copy, R: Write, H: Hub, W: Write>(
     hub: &mut H,
-    session: &mut Session<A>,
+    recorded: &mut Recorded<A, R>,
     seats: &mut [Option<Seat<H::Conn>>],
     report: &mut W,
 ) -> Result<(), TurnError>
     requires { length seats.old ≡ 32 }
     ensures told { OnOk result (Reports (InTurn (AtSeat (Closes (ways H.accepts H.reads H.writes H.closes H.fault_count))) 32 (hub.old, seats.old) (hub.new, seats.new))
-        session.old session.new (W.contents report.old) (W.contents report.new)) }
+        recorded.old.session recorded.new.session (W.contents report.old) (W.contents report.new)) }
     ensures begun { OnErr result ((n : ℕ) × (n ≤ 32) × Takes (InTurn (AtSeat (Closes (ways H.accepts H.reads H.writes H.closes H.fault_count))) n (hub.old, seats.old) (hub.new, seats.new))
-        session.old session.new) }
+        recorded.old.session recorded.new.session) }
 {
     for k in 0..seats.len() {
-        close_seat(hub, session, k as u32 + 1, &mut seats[k], report)?;
+        close_seat(hub, recorded, k as u32 + 1, &mut seats[k], report)?;
     }
     Ok(())
 }
 
-/// Closes a client, if it ended, and its bytes went out or can't. An `Err` changes nothing but the report.
-fn close_seat<A: Allocator + Copy, H: Hub, W: Write>(
+/// Closes a client, if it ended, and its bytes went out or can't. An `Err` changes nothing but the
+/// report.
+fn close_seat<A: Allocator + Copy, R: Write, H: Hub, W: Write>(
     hub: &mut H,
-    session: &mut Session<A>,
+    recorded: &mut Recorded<A, R>,
     client: ClientNo,
     seat: &mut Option<Seat<H::Conn>>,
     report: &mut W,
 ) -> Result<(), TurnError>
     ensures told { OnOk result (Reports (Closes (ways H.accepts H.reads H.writes H.closes H.fault_count) client (hub.old, seat.old) (hub.new, seat.new))
-        session.old session.new (W.contents report.old) (W.contents report.new)) }
-    ensures kept { OnErr result ((session.new ≡ session.old) × (hub.new ≡ hub.old) × (seat.new ≡ seat.old)) }
+        recorded.old.session recorded.new.session (W.contents report.old) (W.contents report.new)) }
+    ensures kept { OnErr result ((recorded.new.session ≡ recorded.old.session) × (hub.new ≡ hub.old) × (seat.new ≡ seat.old)) }
 {
-    let Fed::Ended(cause) = session.status(client) else {
+    let Fed::Ended(cause) = recorded.session.status(client) else {
         return Ok(());
     };
-    if !is_finished(session, client, seat) {
+    if !is_finished(&recorded.session, client, seat) {
         return Ok(());
     }
     write_end(client, cause, report).map_err(write_failed)?;
-    session.close(client);
+    recorded.close(client);
     hang_up(hub, seat.take());
     Ok(())
 }

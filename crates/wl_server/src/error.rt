@@ -8,7 +8,7 @@ use thiserror::Error;
 /// A turn wasn't reported.
 #[derive(Clone, Copy, Debug, PartialEq, Eq, Error)]
 pub enum TurnError {
-    /// The writer of the report or of the images failed.
+    /// The writer of the report, of the images or of the recording failed.
     #[error("write failed")]
     Write = 1,
 }

@@ -9,12 +9,14 @@ ghost use Rattle.wl_server.specs.Filling.{Opens, PutsFile, PutsOnce, PutsPart, s
 ghost use Rattle.wl_server.specs.Phases.{Fills, FillsClient, FillsSeat, FillsStores, Puts};
 ghost use Rattle.wl_server.specs.Ranges.{FillsListed, GivesOnce, GivesText, PutsRange, PutsRanges, list_name};
 
+use crate::recorded::Recorded;
 use crate::seat::Seat;
 use arrayvec::{ArrayString, ArrayVec};
 use itoa::Buffer;
 use std::alloc::Allocator;
+use std::io::Write;
 use wl_recording::{SideFault, SideFiles, StoreRange, next_range};
-use wl_session::{ClientNo, Session, StoreNo};
+use wl_session::{ClientNo, StoreNo};
 
 /// How many bytes are asked of a file at once, at most.
 const PIECE: usize = 4096;
@@ -38,109 +40,110 @@ struct Target {
     store: StoreNo,
 }
 
-/// Each client that sent bytes gets its side files.
-pub(crate) fn fill_all<A: Allocator + Copy, C: Drop, S: SideFiles>(
-    session: &mut Session<A>,
+/// Puts the side files of each client that sent bytes into its stores.
+pub(crate) fn fill_all<A: Allocator + Copy, R: Write, C: Drop, S: SideFiles>(
+    recorded: &mut Recorded<A, R>,
     seats: &[Option<Seat<C>>],
     side: &mut S,
 )
     requires { length seats.now ≡ 32 }
-    ensures { Takes (InTurn (Fills (files_of S.opens S.gives S.fault_count) seats.now) 32 side.old side.new) session.old session.new }
+    ensures { Takes (InTurn (Fills (files_of S.opens S.gives S.fault_count) seats.now) 32 side.old side.new) recorded.old.session recorded.new.session }
 {
     let mut buf = [0; PIECE];
     for k in 0..seats.len() {
-        fill_seat(session, k as u32 + 1, &seats[k], side, &mut buf);
+        fill_seat(recorded, k as u32 + 1, &seats[k], side, &mut buf);
     }
 }
 
 /// Fills the stores of a client, if it has a connection and sent bytes.
-pub(crate) fn fill_seat<A: Allocator + Copy, C: Drop, S: SideFiles>(
-    session: &mut Session<A>,
+pub(crate) fn fill_seat<A: Allocator + Copy, R: Write, C: Drop, S: SideFiles>(
+    recorded: &mut Recorded<A, R>,
     client: ClientNo,
     seat: &Option<Seat<C>>,
     side: &mut S,
     buf: &mut [u8],
 )
     requires { length buf.old ≡ 4096 }
-    ensures { Takes (FillsSeat (files_of S.opens S.gives S.fault_count) client seat.now side.old side.new) session.old session.new }
+    ensures { Takes (FillsSeat (files_of S.opens S.gives S.fault_count) client seat.now side.old side.new) recorded.old.session recorded.new.session }
 {
     if let Some(seat) = seat {
         if seat.has_sent {
-            fill_client(session, client, seat.number, side, buf);
+            fill_client(recorded, client, seat.number, side, buf);
         }
     }
 }
 
-/// Fills the stores of a client: the ranges that its list names, where there is one; else each live store whole.
-fn fill_client<A: Allocator + Copy, S: SideFiles>(
-    session: &mut Session<A>,
+/// Fills the stores of a client: the ranges that its list names, if there is one, else each live
+/// store whole.
+fn fill_client<A: Allocator + Copy, R: Write, S: SideFiles>(
+    recorded: &mut Recorded<A, R>,
     client: ClientNo,
     number: u32,
     side: &mut S,
     buf: &mut [u8],
 )
     requires { length buf.old ≡ 4096 }
-    ensures { Takes (FillsClient (files_of S.opens S.gives S.fault_count) client number side.old side.new) session.old session.new }
+    ensures { Takes (FillsClient (files_of S.opens S.gives S.fault_count) client number side.old side.new) recorded.old.session recorded.new.session }
 {
     if opens(list_name(number).as_str(), 0, side) {
-        fill_listed(session, client, number, side, buf);
+        fill_listed(recorded, client, number, side, buf);
     } else {
-        fill_stores(session, client, number, side, buf);
+        fill_stores(recorded, client, number, side, buf);
     }
 }
 
 /// Fills each live store of a client whole, in rising number.
-fn fill_stores<A: Allocator + Copy, S: SideFiles>(
-    session: &mut Session<A>,
+fn fill_stores<A: Allocator + Copy, R: Write, S: SideFiles>(
+    recorded: &mut Recorded<A, R>,
     client: ClientNo,
     number: u32,
     side: &mut S,
     buf: &mut [u8],
 )
     requires { length buf.old ≡ 4096 }
-    ensures { Takes (FillsStores (files_of S.opens S.gives S.fault_count) client number side.old side.new) session.old session.new }
+    ensures { Takes (FillsStores (files_of S.opens S.gives S.fault_count) client number side.old side.new) recorded.old.session recorded.new.session }
 {
     let mut last = 0;
-    while let Some(store) = session.next_store(client, last) {
+    while let Some(store) = recorded.next_store(client, last) {
         let target = Target {
             client,
             number,
             store,
         };
-        fill_store(session, target, side, buf);
+        fill_store(recorded, target, side, buf);
         last = store;
     }
 }
 
-/// Fills a store from its start on. Where its file is missing or fails, the rest stays.
-fn fill_store<A: Allocator + Copy, S: SideFiles>(
-    session: &mut Session<A>,
+/// Fills a store from its start on. If its file is missing or fails, the rest stays.
+fn fill_store<A: Allocator + Copy, R: Write, S: SideFiles>(
+    recorded: &mut Recorded<A, R>,
     target: Target,
     side: &mut S,
     buf: &mut [u8],
 )
     requires { length buf.old ≡ 4096 }
-    ensures { Takes (Puts (files_of S.opens S.gives S.fault_count) target.client target.number target.store side.old side.new) session.old session.new }
+    ensures { Takes (Puts (files_of S.opens S.gives S.fault_count) target.client target.number target.store side.old side.new) recorded.old.session recorded.new.session }
 {
-    if let Some(size) = session.store_size(target.client, target.store) {
-        fill_part(session, target, 0, 0, size, side, buf);
+    if let Some(size) = recorded.store_size(target.client, target.store) {
+        fill_part(recorded, target, 0, 0, size, side, buf);
     }
 }
 
 /// Fills the ranges that the open list names, in its order.
-fn fill_listed<A: Allocator + Copy, S: SideFiles>(
-    session: &mut Session<A>,
+fn fill_listed<A: Allocator + Copy, R: Write, S: SideFiles>(
+    recorded: &mut Recorded<A, R>,
     client: ClientNo,
     number: u32,
     side: &mut S,
     buf: &mut [u8],
 )
     requires { length buf.old ≡ 4096 }
-    ensures { Takes (FillsListed (files_of S.opens S.gives S.fault_count) client number side.old side.new) session.old session.new }
+    ensures { Takes (FillsListed (files_of S.opens S.gives S.fault_count) client number side.old side.new) recorded.old.session recorded.new.session }
 {
     let mut text = ArrayVec::new();
     read_text(side, &mut text, buf);
-    fill_ranges(session, client, number, text.as_slice(), side, buf);
+    fill_ranges(recorded, client, number, text.as_slice(), side, buf);
 }
 
 /// Reads the open file, up to its end or as much as there is room for.
@@ -180,8 +183,8 @@ fn read_piece<S: SideFiles>(side: &mut S, text: &mut ArrayVec<u8, TEXT>, buf: &m
 }
 
 /// Fills the ranges that a text names, in its order.
-fn fill_ranges<A: Allocator + Copy, S: SideFiles>(
-    session: &mut Session<A>,
+fn fill_ranges<A: Allocator + Copy, R: Write, S: SideFiles>(
+    recorded: &mut Recorded<A, R>,
     client: ClientNo,
     number: u32,
     text: &[u8],
@@ -189,7 +192,7 @@ fn fill_ranges<A: Allocator + Copy, S: SideFiles>(
     buf: &mut [u8],
 )
     requires { length buf.old ≡ 4096 }
-    ensures { Takes (PutsRanges (files_of S.opens S.gives S.fault_count) client number (ranges_of text.now) side.old side.new) session.old session.new }
+    ensures { Takes (PutsRanges (files_of S.opens S.gives S.fault_count) client number (ranges_of text.now) side.old side.new) recorded.old.session recorded.new.session }
 {
     let mut text = text;
     let mut before = None;
@@ -197,15 +200,16 @@ fn fill_ranges<A: Allocator + Copy, S: SideFiles>(
         let Some((range, rest)) = next_range(before, text) else {
             return;
         };
-        fill_range(session, client, number, range, side, buf);
+        fill_range(recorded, client, number, range, side, buf);
         before = Some(range);
         text = rest;
     }
 }
 
-/// Fills a range of a store, up to the store's end. Where its file is missing or fails, and where there is no such store, it stays.
-fn fill_range<A: Allocator + Copy, S: SideFiles>(
-    session: &mut Session<A>,
+/// Fills a range of a store, up to the store's end. The range stays if its file is missing or
+/// fails, or there is no such store.
+fn fill_range<A: Allocator + Copy, R: Write, S: SideFiles>(
+    recorded: &mut Recorded<A, R>,
     client: ClientNo,
     number: u32,
     range: StoreRange,
@@ -213,22 +217,23 @@ fn fill_range<A: Allocator + Copy, S: SideFiles>(
     buf: &mut [u8],
 )
     requires { length buf.old ≡ 4096 }
-    ensures { Takes (PutsRange (files_of S.opens S.gives S.fault_count) client number range side.old side.new) session.old session.new }
+    ensures { Takes (PutsRange (files_of S.opens S.gives S.fault_count) client number range side.old side.new) recorded.old.session recorded.new.session }
 {
     let target = Target {
         client,
         number,
         store: range.store,
     };
-    if let Some(size) = session.store_size(client, range.store) {
+    if let Some(size) = recorded.store_size(client, range.store) {
         let most = range.len.min(size.saturating_sub(range.at));
-        fill_part(session, target, range.from, range.at, most, side, buf);
+        fill_part(recorded, target, range.from, range.at, most, side, buf);
     }
 }
 
-/// Puts at most so many bytes of a store's file, from its byte `from` on, into the store from its byte `at` on.
-fn fill_part<A: Allocator + Copy, S: SideFiles>(
-    session: &mut Session<A>,
+/// Puts at most `most` bytes of a store's file, from its byte `from` on, into the store from its
+/// byte `at` on.
+fn fill_part<A: Allocator + Copy, R: Write, S: SideFiles>(
+    recorded: &mut Recorded<A, R>,
     target: Target,
     from: u32,
     at: u32,
@@ -238,10 +243,10 @@ fn fill_part<A: Allocator + Copy, S: SideFiles>(
 )
     requires buf { length buf.old ≡ 4096 }
     requires room { at + most < 2 ^ 32 }
-    ensures { Takes (PutsPart (files_of S.opens S.gives S.fault_count) target.client target.number target.store from at most side.old side.new) session.old session.new }
+    ensures { Takes (PutsPart (files_of S.opens S.gives S.fault_count) target.client target.number target.store from at most side.old side.new) recorded.old.session recorded.new.session }
 {
     if opens(side_name(target.number, target.store).as_str(), from, side) {
-        put_file(session, target, at, most, side, buf);
+        put_file(recorded, target, at, most, side, buf);
     }
 }
 
@@ -287,9 +292,9 @@ fn push(name: &mut ArrayString<NAME>, text: &str)
     };
 }
 
-/// Puts at most so many of the open file's bytes into a store, from its byte `at` on.
-fn put_file<A: Allocator + Copy, S: SideFiles>(
-    session: &mut Session<A>,
+/// Puts at most this many of the open file's bytes into a store, from its byte `at` on.
+fn put_file<A: Allocator + Copy, R: Write, S: SideFiles>(
+    recorded: &mut Recorded<A, R>,
     target: Target,
     at: u32,
     most: u32,
@@ -298,12 +303,12 @@ fn put_file<A: Allocator + Copy, S: SideFiles>(
 )
     requires buf { length buf.old ≡ 4096 }
     requires room { at + most < 2 ^ 32 }
-    ensures { Takes (PutsFile (files_of S.opens S.gives S.fault_count) target.client target.store at most side.old side.new) session.old session.new }
+    ensures { Takes (PutsFile (files_of S.opens S.gives S.fault_count) target.client target.store at most side.old side.new) recorded.old.session recorded.new.session }
 {
     let mut done = 0;
     while done < most {
         let room = PIECE.min((most - done) as usize);
-        let count = put_piece(session, target, at + done, side, &mut buf[..room]);
+        let count = put_piece(recorded, target, at + done, side, &mut buf[..room]);
         if count == 0 {
             return;
         }
@@ -311,22 +316,23 @@ fn put_file<A: Allocator + Copy, S: SideFiles>(
     }
 }
 
-/// Puts what one read of the open file gives into a store, and answers how many bytes. None at the file's end, and where the read fails.
-fn put_piece<A: Allocator + Copy, S: SideFiles>(
-    session: &mut Session<A>,
+/// Puts what one read of the open file gives into a store, and answers how many bytes. It is 0 at
+/// the file's end, and if the read fails.
+fn put_piece<A: Allocator + Copy, R: Write, S: SideFiles>(
+    recorded: &mut Recorded<A, R>,
     target: Target,
     at: u32,
     side: &mut S,
     buf: &mut [u8],
 ) -> u32
     requires { length buf.old ≤ PIECE }
-    ensures put { Takes (PutsOnce (files_of S.opens S.gives S.fault_count) target.client target.store at result side.old side.new) session.old session.new }
+    ensures put { Takes (PutsOnce (files_of S.opens S.gives S.fault_count) target.client target.store at result side.old side.new) recorded.old.session recorded.new.session }
     ensures within { result ≤ length buf.old }
 {
     match side.read(buf) {
         Ok(0) | Err(SideFault) => 0,
         Ok(count) => {
-            session.store(target.client, target.store, at, &buf[..count]);
+            recorded.store(target.client, target.store, at, &buf[..count]);
             count as u32
         }
     }

@@ -10,9 +10,10 @@ ghost use Rattle.wl_viewer.specs.Hearing.{asks};
 use crate::delivery::deliver;
 use crate::hub::{Hub, HubFault};
 use crate::receiving::{Received, receive};
+use crate::recorded::Recorded;
 use crate::viewing::{Viewing, Watcher};
 use std::alloc::{AllocError, Allocator};
-use wl_session::Session;
+use std::io::Write;
 use wl_viewer::{Asked, Viewer};
 
 /// How often a viewer is read in a turn, at most.
@@ -21,71 +22,71 @@ const READS: usize = 16;
 /// How many bytes are read at once, at most.
 const PIECE: usize = 4096;
 
-/// The viewer is served; then a connection that waits gets the place if nobody has it, and is served too, and else is closed at once. True where
-/// the place has somebody new.
-pub(crate) fn hear<A: Allocator + Copy, V: Hub>(
+/// Serves the viewer, and then a connection that waits. That one gets the place if nobody has it,
+/// and is served too; else it is closed at once. The answer is true if somebody new has the place.
+pub(crate) fn hear<A: Allocator + Copy, R: Write, V: Hub>(
     viewing: &mut Viewing<A, V, V::Conn>,
-    session: &mut Session<A>,
+    recorded: &mut Recorded<A, R>,
     time: u32,
 ) -> bool
     ensures heard { Takes (Hears (ways V.accepts V.reads V.writes V.closes V.fault_count) time viewing.old.width viewing.old.height result
-        (viewing.old.hub, viewing.old.watcher) (viewing.new.hub, viewing.new.watcher)) session.old session.new }
+        (viewing.old.hub, viewing.old.watcher) (viewing.new.hub, viewing.new.watcher)) recorded.old.session recorded.new.session }
     ensures width { viewing.new.width ≡ viewing.old.width }
     ensures height { viewing.new.height ≡ viewing.old.height }
 {
-    attend(&mut viewing.hub, &mut viewing.watcher, session, time);
+    attend(&mut viewing.hub, &mut viewing.watcher, recorded, time);
     let is_new = accept_viewer(viewing);
     attend_new(
         is_new,
         &mut viewing.hub,
         &mut viewing.watcher,
-        session,
+        recorded,
         time,
     );
     is_new
 }
 
-/// A viewer that got its place just now is served.
-fn attend_new<A: Allocator + Copy, V: Hub>(
+/// Serves a viewer that got its place just now.
+fn attend_new<A: Allocator + Copy, R: Write, V: Hub>(
     is_new: bool,
     hub: &mut V,
     place: &mut Option<Watcher<A, V::Conn>>,
-    session: &mut Session<A>,
+    recorded: &mut Recorded<A, R>,
     time: u32,
 )
-    ensures { Takes (AttendsIf is_new (ways V.accepts V.reads V.writes V.closes V.fault_count) time (hub.old, place.old) (hub.new, place.new)) session.old session.new }
+    ensures { Takes (AttendsIf is_new (ways V.accepts V.reads V.writes V.closes V.fault_count) time (hub.old, place.old) (hub.new, place.new)) recorded.old.session recorded.new.session }
 {
     if !is_new {
         return;
     }
-    attend(hub, place, session, time);
+    attend(hub, place, recorded, time);
 }
 
-/// A viewer is written to and read, if there is one, and leaves where it ended.
-fn attend<A: Allocator + Copy, V: Hub>(
+/// Writes to a viewer and reads it, if there is one, and takes its place away if it ended.
+fn attend<A: Allocator + Copy, R: Write, V: Hub>(
     hub: &mut V,
     place: &mut Option<Watcher<A, V::Conn>>,
-    session: &mut Session<A>,
+    recorded: &mut Recorded<A, R>,
     time: u32,
 )
-    ensures { Takes (Attends (ways V.accepts V.reads V.writes V.closes V.fault_count) time (hub.old, place.old) (hub.new, place.new)) session.old session.new }
+    ensures { Takes (Attends (ways V.accepts V.reads V.writes V.closes V.fault_count) time (hub.old, place.old) (hub.new, place.new)) recorded.old.session recorded.new.session }
 {
-    exchange(hub, place, session, time);
-    dismiss(hub, place, session, time);
+    exchange(hub, place, recorded, time);
+    dismiss(hub, place, recorded, time);
 }
 
-/// A viewer is written to and read, if there is one.
-fn exchange<A: Allocator + Copy, V: Hub>(
+/// Writes to a viewer and reads it, if there is one.
+fn exchange<A: Allocator + Copy, R: Write, V: Hub>(
     hub: &mut V,
     place: &mut Option<Watcher<A, V::Conn>>,
-    session: &mut Session<A>,
+    recorded: &mut Recorded<A, R>,
     time: u32,
 )
-    ensures { Takes (IfWatched (Then (Writing (ways V.accepts V.reads V.writes V.closes V.fault_count)) (Reads (ways V.accepts V.reads V.writes V.closes V.fault_count) time)) (hub.old, place.old) (hub.new, place.new)) session.old session.new }
+    ensures { Takes (IfWatched (Then (Writing (ways V.accepts V.reads V.writes V.closes V.fault_count)) (Reads (ways V.accepts V.reads V.writes V.closes V.fault_count) time)) (hub.old, place.old) (hub.new, place.new)) recorded.old.session recorded.new.session }
 {
     if let Some(watcher) = place {
         write_watcher(hub, watcher);
-        read_watcher(hub, watcher, session, time);
+        read_watcher(hub, watcher, recorded, time);
     }
 }
 
@@ -137,40 +138,40 @@ pub(crate) fn write_watcher<A: Allocator + Copy, V: Hub>(
     watcher.has_failed = delivered.is_gone;
 }
 
-/// Reads a viewer until it would block, but at most so often.
-fn read_watcher<A: Allocator + Copy, V: Hub>(
+/// Reads a viewer until it would block, but at most [`READS`] times.
+fn read_watcher<A: Allocator + Copy, R: Write, V: Hub>(
     hub: &mut V,
     watcher: &mut Watcher<A, V::Conn>,
-    session: &mut Session<A>,
+    recorded: &mut Recorded<A, R>,
     time: u32,
 )
-    ensures { Takes (Reads (ways V.accepts V.reads V.writes V.closes V.fault_count) time (hub.old, watcher.old) (hub.new, watcher.new)) session.old session.new }
+    ensures { Takes (Reads (ways V.accepts V.reads V.writes V.closes V.fault_count) time (hub.old, watcher.old) (hub.new, watcher.new)) recorded.old.session recorded.new.session }
 {
     let mut buf = [0; PIECE];
     for before in 0..READS {
-        if !read_once(hub, watcher, session, time, &mut buf) {
+        if !read_once(hub, watcher, recorded, time, &mut buf) {
             return;
         }
     }
 }
 
-/// Reads once, and takes what came. False where no more is to be read.
-fn read_once<A: Allocator + Copy, V: Hub>(
+/// Reads once, and takes what came. The answer is false if no more is to be read.
+fn read_once<A: Allocator + Copy, R: Write, V: Hub>(
     hub: &mut V,
     watcher: &mut Watcher<A, V::Conn>,
-    session: &mut Session<A>,
+    recorded: &mut Recorded<A, R>,
     time: u32,
     buf: &mut [u8],
 ) -> bool
     requires { length buf.old ≡ 4096 }
-    ensures { Takes (TakesOnce (ways V.accepts V.reads V.writes V.closes V.fault_count) time result (hub.old, watcher.old) (hub.new, watcher.new)) session.old session.new }
+    ensures { Takes (TakesOnce (ways V.accepts V.reads V.writes V.closes V.fault_count) time result (hub.old, watcher.old) (hub.new, watcher.new)) recorded.old.session recorded.new.session }
 {
     if is_left(watcher) {
         return false;
     }
     match receive(hub, &mut watcher.conn, buf) {
         Received::Bytes(count) => {
-            take_bytes(&mut watcher.viewer, session, time, &buf[..count]);
+            take_bytes(&mut watcher.viewer, recorded, time, &buf[..count]);
             true
         }
         Received::Later => false,
@@ -188,42 +189,42 @@ fn is_left<A: Allocator + Copy, C: Drop>(watcher: &Watcher<A, C>) -> bool
     watcher.has_failed || watcher.viewer.is_bad()
 }
 
-/// Takes bytes of a viewer: the pointer does what its lines ask, at this time.
-fn take_bytes<A: Allocator + Copy>(
+/// Takes a viewer's bytes: the pointer does what its lines ask, at this time, in milliseconds.
+fn take_bytes<A: Allocator + Copy, R: Write>(
     viewer: &mut Viewer<A>,
-    session: &mut Session<A>,
+    recorded: &mut Recorded<A, R>,
     time: u32,
     bytes: &[u8],
 )
-    ensures taken { Takes (Does (acts_of time (asks viewer.old.heard bytes.now))) session.old session.new }
+    ensures taken { Takes (Does (acts_of time (asks viewer.old.heard bytes.now))) recorded.old.session recorded.new.session }
     ensures heard { viewer.new ≡ heard_by bytes.now viewer.old }
 {
     for byte in bytes {
         let asked = viewer.take(*byte);
-        act(session, asked, time);
+        act(recorded, asked, time);
     }
 }
 
-/// The pointer does what is asked, at this time.
-fn act<A: Allocator + Copy>(session: &mut Session<A>, asked: Asked, time: u32)
-    ensures { Takes (Does (act_of time asked)) session.old session.new }
+/// Has the pointer do what is asked, at this time, in milliseconds.
+fn act<A: Allocator + Copy, R: Write>(recorded: &mut Recorded<A, R>, asked: Asked, time: u32)
+    ensures { Takes (Does (act_of time asked)) recorded.old.session recorded.new.session }
 {
     match asked {
-        Asked::Motion { x, y } => session.motion(time, x, y),
-        Asked::Button { code, pressed } => session.button(time, code, pressed),
+        Asked::Motion { x, y } => recorded.motion(time, x, y),
+        Asked::Button { code, pressed } => recorded.button(time, code, pressed),
         Asked::Sync { .. } | Asked::Windows | Asked::Nothing | Asked::Bad => {}
     }
 }
 
-/// Where the viewer ended or failed, or was told of a bad line, it loses its place: the buttons that it holds are released at this time, and its
-/// connection is closed.
-pub(crate) fn dismiss<A: Allocator + Copy, V: Hub>(
+/// Takes the place from a viewer that ended or failed, or was told of a bad line. The buttons that
+/// it holds are released at this time, in milliseconds, and its connection is closed.
+pub(crate) fn dismiss<A: Allocator + Copy, R: Write, V: Hub>(
     hub: &mut V,
     place: &mut Option<Watcher<A, V::Conn>>,
-    session: &mut Session<A>,
+    recorded: &mut Recorded<A, R>,
     time: u32,
 )
-    ensures { Takes (Dismisses (ways V.accepts V.reads V.writes V.closes V.fault_count) time (hub.old, place.old) (hub.new, place.new)) session.old session.new }
+    ensures { Takes (Dismisses (ways V.accepts V.reads V.writes V.closes V.fault_count) time (hub.old, place.old) (hub.new, place.new)) recorded.old.session recorded.new.session }
 {
     let Some(watcher) = place.take() else {
         return;
@@ -232,7 +233,7 @@ pub(crate) fn dismiss<A: Allocator + Copy, V: Hub>(
         *place = Some(watcher);
         return;
     }
-    release_all(session, watcher.viewer.held(), time);
+    release_all(recorded, watcher.viewer.held(), time);
     hub.close(watcher.conn);
 }
 
@@ -243,11 +244,15 @@ fn is_dismissed<A: Allocator + Copy, C: Drop>(watcher: &Watcher<A, C>) -> bool
     watcher.has_failed || watcher.viewer.is_done()
 }
 
-/// Releases these buttons at this time.
-fn release_all<A: Allocator + Copy>(session: &mut Session<A>, buttons: &[u32], time: u32)
-    ensures { Takes (Does (releases time buttons.now)) session.old session.new }
+/// Releases these buttons at this time, in milliseconds.
+fn release_all<A: Allocator + Copy, R: Write>(
+    recorded: &mut Recorded<A, R>,
+    buttons: &[u32],
+    time: u32,
+)
+    ensures { Takes (Does (releases time buttons.now)) recorded.old.session recorded.new.session }
 {
     for code in buttons {
-        session.button(time, *code, false);
+        recorded.button(time, *code, false);
     }
 }

@@ -15,6 +15,7 @@ use crate::error::TurnError;
 use crate::filling::fill_all;
 use crate::hub::Hub;
 use crate::reading::read_all;
+use crate::recorded::Recorded;
 use crate::seat::{Connections, Seat};
 use crate::service::Service;
 use crate::sharing::{Shares, share_all};
@@ -23,87 +24,94 @@ use std::alloc::Allocator;
 use std::io::Write;
 use std::time::Clock;
 use wl_recording::SideFiles;
-use wl_session::Session;
 
-/// Takes the clients in: connections are accepted, clients are read, and those that sent bytes get their side files.
-pub(crate) fn take_in<A: Allocator + Copy, H: Hub, S: SideFiles, W: Write>(
-    service: &mut Service<A, H, S>,
+/// Takes the clients in: accepts connections, reads clients, and puts the side files of those that
+/// sent bytes into their stores.
+pub(crate) fn take_in<A: Allocator + Copy, R: Write, H: Hub, S: SideFiles, W: Write>(
+    service: &mut Service<A, R, H, S>,
     connections: &mut Connections<H::Conn>,
     report: &mut W,
 ) -> Result<(), TurnError>
     ensures told { OnOk result (Reports (TakesIn (ways H.accepts H.reads H.writes H.closes H.fault_count) (files_of S.opens S.gives S.fault_count)
         (serving service.old.hub connections.old service.old.side service.old.waiting) (serving service.new.hub connections.new service.new.side service.new.waiting))
-        service.old.session service.new.session (W.contents report.old) (W.contents report.new)) }
+        service.old.recorded.session service.new.recorded.session (W.contents report.old) (W.contents report.new)) }
     ensures begun { OnErr result (Takes (StartsIn (ways H.accepts H.reads H.writes H.closes H.fault_count)
         (serving service.old.hub connections.old service.old.side service.old.waiting) (serving service.new.hub connections.new service.new.side service.new.waiting))
-        service.old.session service.new.session) }
+        service.old.recorded.session service.new.recorded.session) }
     ensures waiting { service.new.waiting ≡ service.old.waiting }
 {
     let hub = &mut service.hub;
-    let session = &mut service.session;
+    let recorded = &mut service.recorded;
     let seats = &mut connections.seats;
-    accept_all(hub, session, seats, &mut connections.accepted, report)?;
-    read_and_fill(hub, session, seats, &mut service.side);
+    accept_all(hub, recorded, seats, &mut connections.accepted, report)?;
+    read_and_fill(hub, recorded, seats, &mut service.side);
     Ok(())
 }
 
-/// Clients are read, and those that sent bytes get their side files.
-fn read_and_fill<A: Allocator + Copy, H: Hub, S: SideFiles>(
+/// Reads clients, and puts the side files of those that sent bytes into their stores.
+fn read_and_fill<A: Allocator + Copy, R: Write, H: Hub, S: SideFiles>(
     hub: &mut H,
-    session: &mut Session<A>,
+    recorded: &mut Recorded<A, R>,
     seats: &mut [Option<Seat<H::Conn>>],
     side: &mut S,
 )
     requires { length seats.old ≡ 32 }
     ensures { (accepted : ℕ) (waiting : List PointerLine) → Takes (Then (ForEach (Reads (ways H.accepts H.reads H.writes H.closes H.fault_count)) 32) (Filling (files_of S.opens S.gives S.fault_count))
         (serving hub.old (record { accepted = accepted; seats = seats.old }) side.old waiting) (serving hub.new (record { accepted = accepted; seats = seats.new }) side.new waiting))
-        session.old session.new }
+        recorded.old.session recorded.new.session }
 {
-    read_all(hub, session, seats);
-    fill_all(session, seats, side);
+    read_all(hub, recorded, seats);
+    fill_all(recorded, seats, side);
 }
 
-/// Takes the clients in while their shares of the server's time last: connections are accepted, clients are read, and those that sent bytes get their
-/// side files.
-pub(crate) fn take_shared_in<A: Allocator + Copy, H: Hub, S: SideFiles, K: Clock, W: Write>(
+/// Takes the clients in while their shares of the server's time last: accepts connections, reads
+/// clients, and puts the side files of those that sent bytes into their stores.
+pub(crate) fn take_shared_in<
+    A: Allocator + Copy,
+    R: Write,
+    H: Hub,
+    S: SideFiles,
+    K: Clock,
+    W: Write,
+>(
     shares: &mut Shares<'_, K>,
-    service: &mut Service<A, H, S>,
+    service: &mut Service<A, R, H, S>,
     connections: &mut Connections<H::Conn>,
     report: &mut W,
 ) -> Result<(), TurnError>
     ensures told { OnOk result (Reports (SharesIn (ways H.accepts H.reads H.writes H.closes H.fault_count) (files_of S.opens S.gives S.fault_count)
         (serving service.old.hub connections.old service.old.side service.old.waiting) (serving service.new.hub connections.new service.new.side service.new.waiting))
-        service.old.session service.new.session (W.contents report.old) (W.contents report.new)) }
+        service.old.recorded.session service.new.recorded.session (W.contents report.old) (W.contents report.new)) }
     ensures begun { OnErr result (Takes (StartsIn (ways H.accepts H.reads H.writes H.closes H.fault_count)
         (serving service.old.hub connections.old service.old.side service.old.waiting) (serving service.new.hub connections.new service.new.side service.new.waiting))
-        service.old.session service.new.session) }
+        service.old.recorded.session service.new.recorded.session) }
     ensures waiting { service.new.waiting ≡ service.old.waiting }
 {
     let hub = &mut service.hub;
-    let session = &mut service.session;
+    let recorded = &mut service.recorded;
     let seats = &mut connections.seats;
-    accept_all(hub, session, seats, &mut connections.accepted, report)?;
-    share_all(shares, hub, session, seats, &mut service.side);
+    accept_all(hub, recorded, seats, &mut connections.accepted, report)?;
+    share_all(shares, hub, recorded, seats, &mut service.side);
     Ok(())
 }
 
-/// Clients are written to, and those that ended are closed.
-pub(crate) fn give_out<A: Allocator + Copy, H: Hub, S: SideFiles, W: Write>(
-    service: &mut Service<A, H, S>,
+/// Writes to clients, and closes those that ended.
+pub(crate) fn give_out<A: Allocator + Copy, R: Write, H: Hub, S: SideFiles, W: Write>(
+    service: &mut Service<A, R, H, S>,
     connections: &mut Connections<H::Conn>,
     report: &mut W,
 ) -> Result<(), TurnError>
     ensures told { OnOk result (Reports (FromFrame (ways H.accepts H.reads H.writes H.closes H.fault_count) 32
         (serving service.old.hub connections.old service.old.side service.old.waiting) (serving service.new.hub connections.new service.new.side service.new.waiting))
-        service.old.session service.new.session (W.contents report.old) (W.contents report.new)) }
+        service.old.recorded.session service.new.recorded.session (W.contents report.old) (W.contents report.new)) }
     ensures begun { OnErr result ((n : ℕ) × (n ≤ 32) × Takes (FromFrame (ways H.accepts H.reads H.writes H.closes H.fault_count) n
         (serving service.old.hub connections.old service.old.side service.old.waiting) (serving service.new.hub connections.new service.new.side service.new.waiting))
-        service.old.session service.new.session) }
+        service.old.recorded.session service.new.recorded.session) }
     ensures waiting { service.new.waiting ≡ service.old.waiting }
 {
     let hub = &mut service.hub;
-    let session = &mut service.session;
+    let recorded = &mut service.recorded;
     let seats = &mut connections.seats;
-    write_all(hub, session, seats);
-    close_all(hub, session, seats, report)
+    write_all(hub, recorded, seats);
+    close_all(hub, recorded, seats, report)
 }

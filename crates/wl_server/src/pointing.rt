@@ -5,36 +5,37 @@ ghost use Rattle.wl_server.specs.Acting.{Takes};
 ghost use Rattle.wl_server.specs.Due.{due_at, left_at};
 ghost use Rattle.wl_server.specs.Phases.{Points};
 
+use crate::recorded::Recorded;
 use crate::waiting::Waiting;
 use std::alloc::Allocator;
+use std::io::Write;
 use wl_recording::PointerLine;
-use wl_session::Session;
 
-/// Takes the lines that are due at this time, in their order.
-pub(crate) fn point_all<A: Allocator + Copy>(
-    session: &mut Session<A>,
+/// Takes the lines that are due at this time, in milliseconds, in their order.
+pub(crate) fn point_all<A: Allocator + Copy, R: Write>(
+    recorded: &mut Recorded<A, R>,
     waiting: &mut Waiting<A>,
     time: u32,
 )
-    ensures pointed { Takes (Points (due_at time waiting.old)) session.old session.new }
+    ensures pointed { Takes (Points (due_at time waiting.old)) recorded.old.session recorded.new.session }
     ensures left { waiting.new ≡ left_at time waiting.old }
 {
     while let Some(line) = waiting.next_due(time) {
-        point(session, line);
+        point(recorded, line);
     }
 }
 
-/// The pointer goes where a line says, or a button is pressed or released, at the line's own time.
-fn point<A: Allocator + Copy>(session: &mut Session<A>, line: PointerLine)
-    ensures { Takes (Points (line ∷ [])) session.old session.new }
+/// Moves the pointer, or presses or releases a button, as a line says, at the line's own time.
+fn point<A: Allocator + Copy, R: Write>(recorded: &mut Recorded<A, R>, line: PointerLine)
+    ensures { Takes (Points (line ∷ [])) recorded.old.session recorded.new.session }
 {
     match line {
-        PointerLine::Motion { time, x, y } => session.motion(time, x, y),
+        PointerLine::Motion { time, x, y } => recorded.motion(time, x, y),
         PointerLine::Button {
             time,
             code,
             pressed,
-        } => session.button(time, code, pressed),
+        } => recorded.button(time, code, pressed),
         PointerLine::Skip | PointerLine::Bad => {}
     }
 }

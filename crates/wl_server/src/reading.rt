@@ -7,9 +7,11 @@ ghost use Rattle.wl_server.specs.Ways.{ways};
 
 use crate::hub::Hub;
 use crate::receiving::{Received, receive};
+use crate::recorded::Recorded;
 use crate::seat::Seat;
 use std::alloc::Allocator;
-use wl_session::{ClientNo, Session};
+use std::io::Write;
+use wl_session::ClientNo;
 
 /// How often a client is read in a turn, at most.
 const READS: usize = 16;
@@ -18,76 +20,77 @@ const READS: usize = 16;
 const PIECE: usize = 4096;
 
 /// Reads each client until it would block.
-pub(crate) fn read_all<A: Allocator + Copy, H: Hub>(
+pub(crate) fn read_all<A: Allocator + Copy, R: Write, H: Hub>(
     hub: &mut H,
-    session: &mut Session<A>,
+    recorded: &mut Recorded<A, R>,
     seats: &mut [Option<Seat<H::Conn>>],
 )
     requires { length seats.old ≡ 32 }
-    ensures { Takes (InTurn (AtSeat (Reads (ways H.accepts H.reads H.writes H.closes H.fault_count))) 32 (hub.old, seats.old) (hub.new, seats.new)) session.old session.new }
+    ensures { Takes (InTurn (AtSeat (Reads (ways H.accepts H.reads H.writes H.closes H.fault_count))) 32 (hub.old, seats.old) (hub.new, seats.new)) recorded.old.session recorded.new.session }
 {
     let mut buf = [0; PIECE];
     for k in 0..seats.len() {
-        read_seat(hub, session, k as u32 + 1, &mut seats[k], &mut buf);
+        read_seat(hub, recorded, k as u32 + 1, &mut seats[k], &mut buf);
     }
 }
 
 /// Reads a client, if it has a connection.
-fn read_seat<A: Allocator + Copy, H: Hub>(
+fn read_seat<A: Allocator + Copy, R: Write, H: Hub>(
     hub: &mut H,
-    session: &mut Session<A>,
+    recorded: &mut Recorded<A, R>,
     client: ClientNo,
     seat: &mut Option<Seat<H::Conn>>,
     buf: &mut [u8],
 )
     requires { length buf.old ≡ 4096 }
-    ensures { Takes (Reads (ways H.accepts H.reads H.writes H.closes H.fault_count) client (hub.old, seat.old) (hub.new, seat.new)) session.old session.new }
+    ensures { Takes (Reads (ways H.accepts H.reads H.writes H.closes H.fault_count) client (hub.old, seat.old) (hub.new, seat.new)) recorded.old.session recorded.new.session }
 {
     if let Some(seat) = seat {
-        read_client(hub, session, client, seat, buf);
+        read_client(hub, recorded, client, seat, buf);
     }
 }
 
-/// Reads a client until it would block, but at most so often.
-fn read_client<A: Allocator + Copy, H: Hub>(
+/// Reads a client until it would block, but at most [`READS`] times.
+fn read_client<A: Allocator + Copy, R: Write, H: Hub>(
     hub: &mut H,
-    session: &mut Session<A>,
+    recorded: &mut Recorded<A, R>,
     client: ClientNo,
     seat: &mut Seat<H::Conn>,
     buf: &mut [u8],
 )
     requires { length buf.old ≡ 4096 }
-    ensures { Takes (ReadsClient (ways H.accepts H.reads H.writes H.closes H.fault_count) client (hub.old, seat.old) (hub.new, seat.new)) session.old session.new }
+    ensures { Takes (ReadsClient (ways H.accepts H.reads H.writes H.closes H.fault_count) client (hub.old, seat.old) (hub.new, seat.new)) recorded.old.session recorded.new.session }
 {
     seat.has_sent = false;
     for before in 0..READS {
-        if !read_once(hub, session, client, seat, buf) {
+        if !read_once(hub, recorded, client, seat, buf) {
             return;
         }
     }
 }
 
-/// Reads once into the front of `buf`, and feeds what came. False where no more is to be read: it would block, or the client is gone.
-pub(crate) fn read_once<A: Allocator + Copy, H: Hub>(
+/// Reads once into the front of `buf`, and feeds what came. The answer is false if no more is to be
+/// read: it would block, or the client is gone.
+pub(crate) fn read_once<A: Allocator + Copy, R: Write, H: Hub>(
     hub: &mut H,
-    session: &mut Session<A>,
+    recorded: &mut Recorded<A, R>,
     client: ClientNo,
     seat: &mut Seat<H::Conn>,
     buf: &mut [u8],
 ) -> bool
     requires some { 0 < length buf.old }
     requires few { length buf.old ≤ 4096 }
-    ensures { Takes (ReadsOnce (ways H.accepts H.reads H.writes H.closes H.fault_count) client result (hub.old, seat.old) (hub.new, seat.new)) session.old session.new }
+    ensures { Takes (ReadsOnce (ways H.accepts H.reads H.writes H.closes H.fault_count) client result (hub.old, seat.old) (hub.new, seat.new)) recorded.old.session recorded.new.session }
 {
     match receive(hub, &mut seat.conn, buf) {
         Received::Bytes(count) => {
             seat.has_sent = true;
-            session.feed(client, &buf[..count]);
+            recorded.feed(client, &buf[..count]);
             true
         }
         Received::Later => false,
         Received::Gone => {
-            session.gone(client);
+            recorded.gone(client);
             false
         }
     }

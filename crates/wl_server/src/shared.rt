@@ -28,13 +28,24 @@ use std::io::Write;
 use std::time::Clock;
 use wl_recording::SideFiles;
 
-/// Takes one turn as [`turn`](crate::turn) does, whose clients share the server's time: each is read while its share lasts, once at least and 16
-/// times at most, and what it sent besides waits for the next turn. What it took it owes, and it isn't read while it owes more than
-/// the time since the last turn pays; so one that is alone has all the time, and none holds up the others. Where the clock tells no time,
-/// nothing is owed.
-pub fn shared_turn<A: Allocator + Copy, H: Hub, S: SideFiles, K: Clock, W: Write, P: Write>(
+/// Takes one turn as [`turn`](crate::turn) does, in which clients share the server's time. Each is
+/// read while its share lasts, between once and 16 times. What else it sent waits for the next
+/// turn.
+///
+/// A client owes the time that it took. It isn't read while it owes more than the time since the
+/// last turn pays. So one that is alone has all the time, and none holds up the others. If the
+/// clock tells no time, nothing is owed.
+pub fn shared_turn<
+    A: Allocator + Copy,
+    R: Write,
+    H: Hub,
+    S: SideFiles,
+    K: Clock,
+    W: Write,
+    P: Write,
+>(
     shares: &mut Shares<'_, K>,
-    service: &mut Service<A, H, S>,
+    service: &mut Service<A, R, H, S>,
     connections: &mut Connections<H::Conn>,
     time: u32,
     report: &mut W,
@@ -43,20 +54,20 @@ pub fn shared_turn<A: Allocator + Copy, H: Hub, S: SideFiles, K: Clock, W: Write
     ensures taken { OnOk result (IsServed (IsSharedTurn (ways H.accepts H.reads H.writes H.closes H.fault_count) (files_of S.opens S.gives S.fault_count) time
         (serving service.old.hub connections.old service.old.side service.old.waiting) (serving service.new.hub connections.new service.new.side service.new.waiting))
         (IsToldOf (W.contents report.old) (W.contents report.new) (images_in P.contents ppm.old) (images_in P.contents ppm.new))
-        service.old.session service.new.session) }
+        service.old.recorded.session service.new.recorded.session) }
     ensures begun { IsServed (StartsSharedTurn (ways H.accepts H.reads H.writes H.closes H.fault_count) (files_of S.opens S.gives S.fault_count) time
         (serving service.old.hub connections.old service.old.side service.old.waiting) (serving service.new.hub connections.new service.new.side service.new.waiting))
-        (λ events. ⊤) service.old.session service.new.session }
+        (λ events. ⊤) service.old.recorded.session service.new.recorded.session }
     ensures waiting { service.new.waiting ≡ left_at time service.old.waiting }
 {
-    point_all(&mut service.session, &mut service.waiting, time);
+    point_all(&mut service.recorded, &mut service.waiting, time);
     take_phases(shares, service, connections, time, report, ppm)
 }
 
 /// Serves the clients: the phases of a turn, but that of the pointer's lines.
-fn take_phases<A: Allocator + Copy, H: Hub, S: SideFiles, K: Clock, W: Write, P: Write>(
+fn take_phases<A: Allocator + Copy, R: Write, H: Hub, S: SideFiles, K: Clock, W: Write, P: Write>(
     shares: &mut Shares<'_, K>,
-    service: &mut Service<A, H, S>,
+    service: &mut Service<A, R, H, S>,
     connections: &mut Connections<H::Conn>,
     time: u32,
     report: &mut W,
@@ -64,15 +75,15 @@ fn take_phases<A: Allocator + Copy, H: Hub, S: SideFiles, K: Clock, W: Write, P:
 ) -> Result<(), TurnError>
     ensures taken { OnOk result (Tells (Serves (SharesIn (ways H.accepts H.reads H.writes H.closes H.fault_count) (files_of S.opens S.gives S.fault_count)) (ways H.accepts H.reads H.writes H.closes H.fault_count) time 32
         (serving service.old.hub connections.old service.old.side service.old.waiting) (serving service.new.hub connections.new service.new.side service.new.waiting))
-        service.old.session service.new.session (W.contents report.old) (W.contents report.new)
+        service.old.recorded.session service.new.recorded.session (W.contents report.old) (W.contents report.new)
         (images_in P.contents ppm.old) (images_in P.contents ppm.new)) }
     ensures begun { Takes (StartsServing (SharesIn (ways H.accepts H.reads H.writes H.closes H.fault_count) (files_of S.opens S.gives S.fault_count)) (ways H.accepts H.reads H.writes H.closes H.fault_count) time
         (serving service.old.hub connections.old service.old.side service.old.waiting) (serving service.new.hub connections.new service.new.side service.new.waiting))
-        service.old.session service.new.session }
+        service.old.recorded.session service.new.recorded.session }
     ensures waiting { service.new.waiting ≡ service.old.waiting }
 {
     take_shared_in(shares, service, connections, report)?;
-    show(&mut service.session, time, report, ppm)?;
+    show(&mut service.recorded, time, report, ppm)?;
     give_out(service, connections, report)
 }
 
@@ -80,6 +91,7 @@ fn take_phases<A: Allocator + Copy, H: Hub, S: SideFiles, K: Clock, W: Write, P:
 /// the server's time as in [`shared_turn`].
 pub fn shared_turn_viewed<
     A: Allocator + Copy,
+    R: Write,
     H: Hub,
     S: SideFiles,
     V: Hub,
@@ -88,7 +100,7 @@ pub fn shared_turn_viewed<
     P: Write,
 >(
     shares: &mut Shares<'_, K>,
-    service: &mut Service<A, H, S>,
+    service: &mut Service<A, R, H, S>,
     connections: &mut Connections<H::Conn>,
     viewing: &mut Viewing<A, V, V::Conn>,
     time: u32,
@@ -99,18 +111,18 @@ pub fn shared_turn_viewed<
         (serving service.old.hub connections.old service.old.side service.old.waiting, (viewing.old.hub, viewing.old.watcher))
         (serving service.new.hub connections.new service.new.side service.new.waiting, (viewing.new.hub, viewing.new.watcher)))
         (IsToldOf (W.contents report.old) (W.contents report.new) (images_in P.contents ppm.old) (images_in P.contents ppm.new))
-        service.old.session service.new.session) }
+        service.old.recorded.session service.new.recorded.session) }
     ensures waiting { service.new.waiting ≡ left_at time service.old.waiting }
     ensures width { viewing.new.width ≡ viewing.old.width }
     ensures height { viewing.new.height ≡ viewing.old.height }
 {
-    point_all(&mut service.session, &mut service.waiting, time);
-    hear(viewing, &mut service.session, time);
+    point_all(&mut service.recorded, &mut service.waiting, time);
+    hear(viewing, &mut service.recorded, time);
     take_viewed_phases(shares, service, connections, viewing, time, report, ppm)?;
     tell(
         &mut viewing.hub,
         &mut viewing.watcher,
-        &mut service.session,
+        &mut service.recorded,
         time,
     );
     Ok(())
@@ -120,6 +132,7 @@ pub fn shared_turn_viewed<
 /// pointer's lines and of the viewer's connection.
 fn take_viewed_phases<
     A: Allocator + Copy,
+    R: Write,
     H: Hub,
     S: SideFiles,
     V: Hub,
@@ -128,7 +141,7 @@ fn take_viewed_phases<
     P: Write,
 >(
     shares: &mut Shares<'_, K>,
-    service: &mut Service<A, H, S>,
+    service: &mut Service<A, R, H, S>,
     connections: &mut Connections<H::Conn>,
     viewing: &mut Viewing<A, V, V::Conn>,
     time: u32,
@@ -138,7 +151,7 @@ fn take_viewed_phases<
     ensures taken { OnOk result ((update : Option Update) × Tells (ServesViewed (SharesIn (ways H.accepts H.reads H.writes H.closes H.fault_count) (files_of S.opens S.gives S.fault_count)) (ways H.accepts H.reads H.writes H.closes H.fault_count) time 32 update
         (serving service.old.hub connections.old service.old.side service.old.waiting, (viewing.old.hub, viewing.old.watcher))
         (serving service.new.hub connections.new service.new.side service.new.waiting, (viewing.new.hub, viewing.new.watcher)))
-        service.old.session service.new.session (W.contents report.old) (W.contents report.new)
+        service.old.recorded.session service.new.recorded.session (W.contents report.old) (W.contents report.new)
         (images_in P.contents ppm.old) (images_in P.contents ppm.new)) }
     ensures waiting { service.new.waiting ≡ service.old.waiting }
     ensures width { viewing.new.width ≡ viewing.old.width }
@@ -146,7 +159,7 @@ fn take_viewed_phases<
 {
     take_shared_in(shares, service, connections, report)?;
     show_viewed(
-        &mut service.session,
+        &mut service.recorded,
         &mut viewing.watcher,
         time,
         report,

@@ -11,11 +11,13 @@ ghost use Rattle.wl_server.specs.Ways.{ways};
 use crate::filling::fill_seat;
 use crate::hub::Hub;
 use crate::reading::read_once;
+use crate::recorded::Recorded;
 use crate::seat::Seat;
 use std::alloc::Allocator;
+use std::io::Write;
 use std::time::{Clock, Instant};
 use wl_recording::SideFiles;
-use wl_session::{ClientNo, Session};
+use wl_session::ClientNo;
 
 /// How much a client may owe at most, in nanoseconds.
 const MOST_OWED: u64 = 1_000_000_000;
@@ -137,40 +139,41 @@ fn count_of<C: Drop>(seats: &[Option<Seat<C>>]) -> u64 {
     count
 }
 
-/// Serves each client while its share lasts, one after another: it is read, and its stores get their side files.
-pub(crate) fn share_all<A: Allocator + Copy, H: Hub, S: SideFiles, K: Clock>(
+/// Serves each client while its share lasts, one after another: reads it, and puts its side files
+/// into its stores.
+pub(crate) fn share_all<A: Allocator + Copy, R: Write, H: Hub, S: SideFiles, K: Clock>(
     shares: &mut Shares<'_, K>,
     hub: &mut H,
-    session: &mut Session<A>,
+    recorded: &mut Recorded<A, R>,
     seats: &mut [Option<Seat<H::Conn>>],
     side: &mut S,
 )
     requires { length seats.old ≡ 32 }
     ensures { (paid : ℕ) × (LEAST_PAID ≤ paid) × Takes (InTurn (AtSeat (SharesSeat (ways H.accepts H.reads H.writes H.closes H.fault_count) (files_of S.opens S.gives S.fault_count) paid)) 32
-        ((hub.old, side.old), seats.old) ((hub.new, side.new), seats.new)) session.old session.new }
+        ((hub.old, side.old), seats.old) ((hub.new, side.new), seats.new)) recorded.old.session recorded.new.session }
 {
     let share = shares.share(count_of(seats));
-    share_each(share, hub, session, seats, side);
+    share_each(share, hub, recorded, seats, side);
 }
 
 /// Serves each client while this share lasts.
-fn share_each<A: Allocator + Copy, H: Hub, S: SideFiles, K: Clock>(
+fn share_each<A: Allocator + Copy, R: Write, H: Hub, S: SideFiles, K: Clock>(
     share: Share<'_, K>,
     hub: &mut H,
-    session: &mut Session<A>,
+    recorded: &mut Recorded<A, R>,
     seats: &mut [Option<Seat<H::Conn>>],
     side: &mut S,
 )
     requires { length seats.old ≡ 32 }
     ensures { Takes (InTurn (AtSeat (SharesSeat (ways H.accepts H.reads H.writes H.closes H.fault_count) (files_of S.opens S.gives S.fault_count) share.entry.paid)) 32
-        ((hub.old, side.old), seats.old) ((hub.new, side.new), seats.new)) session.old session.new }
+        ((hub.old, side.old), seats.old) ((hub.new, side.new), seats.new)) recorded.old.session recorded.new.session }
 {
     let mut buf = [0; PIECE];
     for k in 0..seats.len() {
         share_seat(
             share,
             hub,
-            session,
+            recorded,
             k as u32 + 1,
             &mut seats[k],
             side,
@@ -180,10 +183,10 @@ fn share_each<A: Allocator + Copy, H: Hub, S: SideFiles, K: Clock>(
 }
 
 /// Serves a client, if it has a connection, while this share lasts.
-fn share_seat<A: Allocator + Copy, H: Hub, S: SideFiles, K: Clock>(
+fn share_seat<A: Allocator + Copy, R: Write, H: Hub, S: SideFiles, K: Clock>(
     share: Share<'_, K>,
     hub: &mut H,
-    session: &mut Session<A>,
+    recorded: &mut Recorded<A, R>,
     client: ClientNo,
     seat: &mut Option<Seat<H::Conn>>,
     side: &mut S,
@@ -191,11 +194,11 @@ fn share_seat<A: Allocator + Copy, H: Hub, S: SideFiles, K: Clock>(
 )
     requires { length buf.old ≡ 4096 }
     ensures { Takes (SharesSeat (ways H.accepts H.reads H.writes H.closes H.fault_count) (files_of S.opens S.gives S.fault_count) share.entry.paid client
-        ((hub.old, side.old), seat.old) ((hub.new, side.new), seat.new)) session.old session.new }
+        ((hub.old, side.old), seat.old) ((hub.new, side.new), seat.new)) recorded.old.session recorded.new.session }
 {
     let begun = share.now();
-    let piece = read_seat(share, begun, hub, session, client, seat, buf);
-    fill_seat(session, client, seat, side, buf);
+    let piece = read_seat(share, begun, hub, recorded, client, seat, buf);
+    fill_seat(recorded, client, seat, side, buf);
     charge(seat, piece, share.owed(begun));
 }
 
@@ -213,37 +216,38 @@ fn charge<C: Drop>(seat: &mut Option<Seat<C>>, piece: usize, debt: u64)
     }
 }
 
-/// Reads a client, if it has a connection, while this share lasts, and answers by pieces of which size it is to be read on.
-fn read_seat<A: Allocator + Copy, H: Hub, K: Clock>(
+/// Reads a client, if it has a connection, while this share lasts. The answer is the size of the
+/// pieces by which it is to be read next.
+fn read_seat<A: Allocator + Copy, R: Write, H: Hub, K: Clock>(
     share: Share<'_, K>,
     begun: Option<Instant>,
     hub: &mut H,
-    session: &mut Session<A>,
+    recorded: &mut Recorded<A, R>,
     client: ClientNo,
     seat: &mut Option<Seat<H::Conn>>,
     buf: &mut [u8],
 ) -> usize
     requires { length buf.old ≡ 4096 }
-    ensures { Takes (ReadsShared (ways H.accepts H.reads H.writes H.closes H.fault_count) share.entry.paid client (hub.old, seat.old) (hub.new, seat.new)) session.old session.new }
+    ensures { Takes (ReadsShared (ways H.accepts H.reads H.writes H.closes H.fault_count) share.entry.paid client (hub.old, seat.old) (hub.new, seat.new)) recorded.old.session recorded.new.session }
 {
     match seat {
-        Some(seat) => read_owing(share, begun, hub, session, client, seat, buf),
+        Some(seat) => read_owing(share, begun, hub, recorded, client, seat, buf),
         None => LEAST_PIECE,
     }
 }
 
 /// Reads a client while this share lasts, unless it owes more than it is paid.
-fn read_owing<A: Allocator + Copy, H: Hub, K: Clock>(
+fn read_owing<A: Allocator + Copy, R: Write, H: Hub, K: Clock>(
     share: Share<'_, K>,
     begun: Option<Instant>,
     hub: &mut H,
-    session: &mut Session<A>,
+    recorded: &mut Recorded<A, R>,
     client: ClientNo,
     seat: &mut Seat<H::Conn>,
     buf: &mut [u8],
 ) -> usize
     requires { length buf.old ≡ 4096 }
-    ensures { Takes (ReadsShare (ways H.accepts H.reads H.writes H.closes H.fault_count) share.entry.paid client (hub.old, seat.old) (hub.new, seat.new)) session.old session.new }
+    ensures { Takes (ReadsShare (ways H.accepts H.reads H.writes H.closes H.fault_count) share.entry.paid client (hub.old, seat.old) (hub.new, seat.new)) recorded.old.session recorded.new.session }
 {
     if owes(seat, share.paid) {
         seat.has_sent = false;
@@ -251,7 +255,7 @@ fn read_owing<A: Allocator + Copy, H: Hub, K: Clock>(
         return seat.piece;
     }
     seat.debt = 0;
-    read_client(share, begun, hub, session, client, seat, buf)
+    read_client(share, begun, hub, recorded, client, seat, buf)
 }
 
 /// Whether a client owes more than it is paid, in nanoseconds.
@@ -261,25 +265,26 @@ fn owes<C: Drop>(seat: &Seat<C>, paid: u64) -> bool
     seat.debt > paid
 }
 
-/// Reads a client until it would block, or its share is over, but at most so often: by pieces that grow while they are cheap.
-fn read_client<A: Allocator + Copy, H: Hub, K: Clock>(
+/// Reads a client until it would block, or its share is over, but at most [`READS`] times. Pieces
+/// grow while they are cheap.
+fn read_client<A: Allocator + Copy, R: Write, H: Hub, K: Clock>(
     share: Share<'_, K>,
     begun: Option<Instant>,
     hub: &mut H,
-    session: &mut Session<A>,
+    recorded: &mut Recorded<A, R>,
     client: ClientNo,
     seat: &mut Seat<H::Conn>,
     buf: &mut [u8],
 ) -> usize
     requires { length buf.old ≡ 4096 }
-    ensures { Takes (ReadsUntil IsShareOver (ways H.accepts H.reads H.writes H.closes H.fault_count) client (hub.old, seat.old) (hub.new, seat.new)) session.old session.new }
+    ensures { Takes (ReadsUntil IsShareOver (ways H.accepts H.reads H.writes H.closes H.fault_count) client (hub.old, seat.old) (hub.new, seat.new)) recorded.old.session recorded.new.session }
 {
     seat.has_sent = false;
     let most = share.most();
     let mut piece = first_piece(seat.piece, most);
     for before in 0..READS {
         let from = share.now();
-        if !read_once(hub, session, client, seat, &mut buf[..piece]) {
+        if !read_once(hub, recorded, client, seat, &mut buf[..piece]) {
             return piece;
         }
         piece = next_piece(piece, most, share.since(from));

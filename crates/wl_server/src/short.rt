@@ -21,39 +21,53 @@ use std::io::Write;
 use std::time::Clock;
 use wl_recording::SideFiles;
 
-/// Takes a short turn, between two frames: connections that wait are accepted; clients are read, and fed what each read gave; those that sent
-/// bytes get their side files; clients are written to; and those that ended are closed, as [`shared_turn`](crate::shared_turn) does each. No line of the
-/// pointer's file is taken, and no frame is shown.
+/// Takes a short turn, between two frames. Connections that wait are accepted, and clients are read
+/// and fed what each read gave. Those that sent bytes get their side files. Clients are written to,
+/// and those that ended are closed. All is done as in [`shared_turn`](crate::shared_turn).
 ///
-/// It answers whether anybody connected or sent bytes, so that another one may be wanted at once. `Write` is answered where the report
-/// couldn't be written.
-pub fn short_turn<A: Allocator + Copy, H: Hub, S: SideFiles, K: Clock, W: Write>(
+/// No line of the pointer's file is taken, and no frame is shown. The answer is whether anybody
+/// connected or sent bytes, so another short turn may be wanted at once.
+///
+/// # Errors
+///
+/// `Write` if the report couldn't be written.
+pub fn short_turn<A: Allocator + Copy, R: Write, H: Hub, S: SideFiles, K: Clock, W: Write>(
     shares: &mut Shares<'_, K>,
-    service: &mut Service<A, H, S>,
+    service: &mut Service<A, R, H, S>,
     connections: &mut Connections<H::Conn>,
     report: &mut W,
 ) -> Result<bool, TurnError>
     ensures taken { OnOk result ((images : Option (List ℕ)) → IsServed (IsShortTurn (ways H.accepts H.reads H.writes H.closes H.fault_count) (files_of S.opens S.gives S.fault_count)
         (serving service.old.hub connections.old service.old.side service.old.waiting) (serving service.new.hub connections.new service.new.side service.new.waiting))
-        (IsToldOf (W.contents report.old) (W.contents report.new) images images) service.old.session service.new.session) }
+        (IsToldOf (W.contents report.old) (W.contents report.new) images images) service.old.recorded.session service.new.recorded.session) }
     ensures begun { IsServed (StartsShortTurn (ways H.accepts H.reads H.writes H.closes H.fault_count) (files_of S.opens S.gives S.fault_count)
         (serving service.old.hub connections.old service.old.side service.old.waiting) (serving service.new.hub connections.new service.new.side service.new.waiting))
-        (λ events. ⊤) service.old.session service.new.session }
+        (λ events. ⊤) service.old.recorded.session service.new.recorded.session }
     ensures waiting { service.new.waiting ≡ service.old.waiting }
 {
     serve_between(shares, service, connections, report)
 }
 
-/// Takes a short turn as [`short_turn`] does, with a viewer: first the viewer is written to and read, and the pointer does what its lines ask, at this
-/// time; and a connection of its hub that waits gets the place where nobody has it, as [`shared_turn_viewed`](crate::shared_turn_viewed) does. It is told of no frame
-/// and answered nothing.
+/// Takes a short turn as [`short_turn`] does, with a viewer. First the viewer is written to and
+/// read, and the pointer does what its lines ask, at this time. A connection of its hub that waits
+/// gets the place if nobody has it, as in [`shared_turn_viewed`](crate::shared_turn_viewed). The
+/// viewer is told of no frame, and nothing is answered.
 ///
-/// Whoever copies the pixels of each whole update holds the last frame on, but for what the viewer wasn't told.
+/// Whoever copies the pixels of each whole update still holds the last frame, except for what the
+/// viewer wasn't told.
 ///
-/// It answers whether anybody connected or sent bytes, or the viewer took some.
-pub fn short_turn_viewed<A: Allocator + Copy, H: Hub, S: SideFiles, V: Hub, K: Clock, W: Write>(
+/// The answer is whether anybody connected or sent bytes, or the viewer took some.
+pub fn short_turn_viewed<
+    A: Allocator + Copy,
+    R: Write,
+    H: Hub,
+    S: SideFiles,
+    V: Hub,
+    K: Clock,
+    W: Write,
+>(
     shares: &mut Shares<'_, K>,
-    service: &mut Service<A, H, S>,
+    service: &mut Service<A, R, H, S>,
     connections: &mut Connections<H::Conn>,
     viewing: &mut Viewing<A, V, V::Conn>,
     time: u32,
@@ -62,13 +76,13 @@ pub fn short_turn_viewed<A: Allocator + Copy, H: Hub, S: SideFiles, V: Hub, K: C
     ensures taken { OnOk result ((images : Option (List ℕ)) → IsServed (IsShortViewedTurn (ways H.accepts H.reads H.writes H.closes H.fault_count) (ways V.accepts V.reads V.writes V.closes V.fault_count) (files_of S.opens S.gives S.fault_count) time viewing.old.width viewing.old.height
         (serving service.old.hub connections.old service.old.side service.old.waiting, (viewing.old.hub, viewing.old.watcher))
         (serving service.new.hub connections.new service.new.side service.new.waiting, (viewing.new.hub, viewing.new.watcher)))
-        (IsToldOf (W.contents report.old) (W.contents report.new) images images) service.old.session service.new.session) }
+        (IsToldOf (W.contents report.old) (W.contents report.new) images images) service.old.recorded.session service.new.recorded.session) }
     ensures waiting { service.new.waiting ≡ service.old.waiting }
     ensures width { viewing.new.width ≡ viewing.old.width }
     ensures height { viewing.new.height ≡ viewing.old.height }
 {
     let owed = owed_bytes(viewing);
-    hear(viewing, &mut service.session, time);
+    hear(viewing, &mut service.recorded, time);
     let is_busy = serve_between(shares, service, connections, report)?;
     Ok(is_busy || owed_bytes(viewing) != owed)
 }
@@ -81,19 +95,19 @@ fn owed_bytes<A: Allocator + Copy, V, C: Drop>(viewing: &Viewing<A, V, C>) -> us
     }
 }
 
-/// Serves the clients, without a frame. True where anybody connected or sent bytes.
-fn serve_between<A: Allocator + Copy, H: Hub, S: SideFiles, K: Clock, W: Write>(
+/// Serves the clients, without a frame. The answer is true if anybody connected or sent bytes.
+fn serve_between<A: Allocator + Copy, R: Write, H: Hub, S: SideFiles, K: Clock, W: Write>(
     shares: &mut Shares<'_, K>,
-    service: &mut Service<A, H, S>,
+    service: &mut Service<A, R, H, S>,
     connections: &mut Connections<H::Conn>,
     report: &mut W,
 ) -> Result<bool, TurnError>
     ensures told { OnOk result (Reports (ServesBetween (SharesIn (ways H.accepts H.reads H.writes H.closes H.fault_count) (files_of S.opens S.gives S.fault_count)) (ways H.accepts H.reads H.writes H.closes H.fault_count) 32
         (serving service.old.hub connections.old service.old.side service.old.waiting) (serving service.new.hub connections.new service.new.side service.new.waiting))
-        service.old.session service.new.session (W.contents report.old) (W.contents report.new)) }
+        service.old.recorded.session service.new.recorded.session (W.contents report.old) (W.contents report.new)) }
     ensures begun { Takes (StartsBetween (SharesIn (ways H.accepts H.reads H.writes H.closes H.fault_count) (files_of S.opens S.gives S.fault_count)) (ways H.accepts H.reads H.writes H.closes H.fault_count)
         (serving service.old.hub connections.old service.old.side service.old.waiting) (serving service.new.hub connections.new service.new.side service.new.waiting))
-        service.old.session service.new.session }
+        service.old.recorded.session service.new.recorded.session }
     ensures waiting { service.new.waiting ≡ service.old.waiting }
 {
     let accepted = connections.count();

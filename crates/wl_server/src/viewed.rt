@@ -2,12 +2,16 @@
 
 ghost use Rattle.std.specs.Prelude.{◌≡◌, ◌<◌, ◌&&◌, ◌++◌, Option, OnOk, Some, not, slice_get};
 ghost use Rattle.spec_desktop.specs.Desktop.{Desktop};
+ghost use Rattle.spec_desktop.specs.Act.{Tick};
+ghost use Rattle.spec_desktop.specs.declared.answers.Done.{Done};
 ghost use Rattle.wl_recording.specs.Images.{images_in};
 ghost use Rattle.wl_server.specs.Acting.{Takes, Then};
+ghost use Rattle.wl_server.specs.Recorded.{IsAllRecorded};
 ghost use Rattle.wl_server.specs.Telling.{Tells};
 ghost use Rattle.wl_server.specs.Watching.{Answers, IfWatched, Refreshes, RefreshesPlace, Shows, TellsOf, Answering, Writing, Writes, answers, lines_of, windows_text};
 ghost use Rattle.wl_server.specs.Ways.{ways};
 ghost use Rattle.wl_session.specs.Agreeing.{Agrees};
+ghost use Rattle.wl_session.specs.Course.{TakesCourse};
 ghost use Rattle.wl_session.specs.Shown.{windows_kept};
 ghost use Rattle.wl_viewer.specs.Telling.{Update, ended, is_as_large, told_windows, window_line};
 ghost use Rattle.wl_viewer.specs.declared.texts.WindowLine.{WindowLine as Line};
@@ -15,6 +19,8 @@ ghost use Rattle.wl_viewer.specs.declared.texts.WindowLine.{WindowLine as Line};
 use crate::error::{TurnError, write_failed};
 use crate::hearing::{dismiss, write_watcher};
 use crate::hub::Hub;
+use crate::noting::{note_tick, settle};
+use crate::recorded::Recorded;
 use crate::viewing::Watcher;
 use std::alloc::{AllocError, Allocator};
 use std::io::Write;
@@ -22,15 +28,36 @@ use wl_recording::{write_frame, write_image};
 use wl_session::{Damage, Framebuffer, Session};
 use wl_viewer::{Viewer, WindowLine};
 
-/// Shows a frame at this time, of which the viewer is told, and tells of it where something was damaged.
-pub(crate) fn show_viewed<A: Allocator + Copy, C: Drop, W: Write, P: Write>(
+/// Shows a frame at this time, which is recorded, and of which the viewer is told, and tells of it
+/// where something was damaged.
+pub(crate) fn show_viewed<A: Allocator + Copy, R: Write, C: Drop, W: Write, P: Write>(
+    recorded: &mut Recorded<A, R>,
+    place: &mut Option<Watcher<A, C>>,
+    time: u32,
+    report: &mut W,
+    ppm: &mut Option<P>,
+) -> Result<(), TurnError>
+    ensures told { OnOk result ((update : Option Update) × Tells (Shows time update place.old place.new) recorded.old.session recorded.new.session
+        (W.contents report.old) (W.contents report.new) (images_in P.contents ppm.old) (images_in P.contents ppm.new)) }
+    ensures recorded { OnOk result (IsAllRecorded R.contents recorded.new.session recorded.new.recording) }
+{
+    settle(&mut recorded.recording, &recorded.session);
+    note_tick(&mut recorded.recording, time);
+    show_viewed_frame(&mut recorded.session, place, time, report, ppm)?;
+    recorded.flush()
+}
+
+/// Shows a frame at this time, in milliseconds, and tells the viewer. It reports the frame if
+/// something was damaged.
+fn show_viewed_frame<A: Allocator + Copy, C: Drop, W: Write, P: Write>(
     session: &mut Session<A>,
     place: &mut Option<Watcher<A, C>>,
     time: u32,
     report: &mut W,
     ppm: &mut Option<P>,
 ) -> Result<(), TurnError>
-    ensures { OnOk result ((update : Option Update) × Tells (Shows time update place.old place.new) session.old session.new
+    ensures course { TakesCourse (Tick time) Done.Tick session.old session.new }
+    ensures told { OnOk result ((update : Option Update) × Tells (Shows time update place.old place.new) session.old session.new
         (W.contents report.old) (W.contents report.new) (images_in P.contents ppm.old) (images_in P.contents ppm.new)) }
 {
     let frame = session.tick(time);
@@ -89,17 +116,18 @@ fn is_fit<A: Allocator + Copy, C: Drop>(
     !watcher.has_failed && watcher.viewer.is_as_large(frame, damage)
 }
 
-/// The viewer is answered what is due, and written to; it leaves where it ended or failed, and once it read that a line was bad.
-pub(crate) fn tell<A: Allocator + Copy, V: Hub>(
+/// Answers the viewer what is due, and writes to it. It loses its place if it ended or failed, and
+/// once it read that a line was bad.
+pub(crate) fn tell<A: Allocator + Copy, R: Write, V: Hub>(
     hub: &mut V,
     place: &mut Option<Watcher<A, V::Conn>>,
-    session: &mut Session<A>,
+    recorded: &mut Recorded<A, R>,
     time: u32,
 )
-    ensures { Takes (TellsOf (ways V.accepts V.reads V.writes V.closes V.fault_count) time (hub.old, place.old) (hub.new, place.new)) session.old session.new }
+    ensures { Takes (TellsOf (ways V.accepts V.reads V.writes V.closes V.fault_count) time (hub.old, place.old) (hub.new, place.new)) recorded.old.session recorded.new.session }
 {
-    reply(hub, place, session, time);
-    dismiss(hub, place, session, time);
+    reply(hub, place, &recorded.session, time);
+    dismiss(hub, place, recorded, time);
 }
 
 /// Answers the viewer what is due, and writes to it, if there is one.

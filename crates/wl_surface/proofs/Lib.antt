@@ -1,4 +1,5 @@
 pub mod Applying
+pub mod Asking
 pub mod Blocks
 pub mod Callbacks
 pub mod Changed

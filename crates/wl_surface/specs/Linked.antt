@@ -13,6 +13,11 @@ use Rattle.wl_surface.specs.Surfaces.{Link, Surfaces, link_at, surface_at}
 use Rattle.wl_surface.specs.Trees.{is_bad_parent, is_too_deep, link_of}
 use Rattle.wl_surface.specs.Hanging.{Hang}
 
+-- what is kept: of each surface by itself, and of how they hang together
+pub record SurfacesView : Type 0 where
+  pub states : Slots
+  pub family : Tied
+
 -- each surface under its number
 abbrev pub numbered : Surfaces → Numbered
 numbered all number = surface_at number all

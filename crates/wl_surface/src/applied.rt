@@ -4,19 +4,23 @@ ghost use Rattle.wl_surface.specs.Kept.{StandsFor};
 ghost use Rattle.wl_surface.specs.Surface.{Surface as Asked, applying};
 ghost use Rattle.wl_surface.specs.Applied.{IsApplied};
 
-use crate::content::BufferNo;
+use crate::content::{Attached, BufferNo};
 use crate::state::SurfaceState;
 use crate::states::SurfaceNo;
 use std::alloc::Allocator;
 use wl_geom::Rect;
 
 /// What a call changed: the surfaces that it applied or took away, the buffers that aren't busy any
-/// more (wayland.xml, wl_buffer.release), and the callbacks that go with a surface.
+/// more (wayland.xml, wl_buffer.release), and the callbacks that go with a surface. `shown` are the
+/// buffers that its surfaces had applied and held before it, as they were attached. Its surfaces
+/// are those that it applied, held or ended. A buffer that was shown more than once is there as
+/// often. Each freed buffer is among them.
 #[derive(Drop)]
 pub struct Applied<A: Allocator> {
     pub changes: Vec<Change<A>, A>,
     pub freed: Vec<BufferNo, A>,
     pub callbacks: Vec<u32, A>,
+    pub shown: Vec<Attached, A>,
 }
 
 /// A surface whose state was applied, or which is gone and showed a buffer. `rects` is the damage

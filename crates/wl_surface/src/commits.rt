@@ -24,15 +24,6 @@ use crate::surfaces::Surfaces;
 use crate::tree::{add_freed, apply_each, below, shown_of};
 use std::alloc::{AllocError, Allocator};
 
-/// What a call applied, and which buffers its surfaces had applied and held before it, as they were
-/// attached. Its surfaces are those that it applied, held or ended. A buffer that was shown more
-/// than once is there as often. Each freed buffer is among them (wayland.xml, wl_buffer.release).
-#[derive(Drop)]
-pub struct Told<A: Allocator> {
-    pub applied: Applied<A>,
-    pub shown: Vec<Attached, A>,
-}
-
 /// What is found before a tree is applied, while nothing has changed yet: its surfaces, the buffers
 /// that these show, and room for what is told.
 #[derive(Drop)]
@@ -52,40 +43,40 @@ impl<A: Allocator + Copy> Surfaces<A> {
     ///
     /// `Size` if the sides of the buffer that it would show are no multiples of the scale, else
     /// `Memory`. Nothing changes then.
-    pub fn commit(&mut self, surface: SurfaceNo) -> Result<Told<A>, SurfaceError>
+    pub fn commit(&mut self, surface: SurfaceNo) -> Result<Applied<A>, SurfaceError>
         ensures ok { OnOk result ((all : Asked) → Stand self.old.states self.old.family all → Stand self.new.states self.new.family (committed_in surface all)) }
         ensures waits { OnOk result ((all : Asked) (cs : List Callback) → Stand self.old.states self.old.family all → AreWaiting self.old.states.frames (numbered all) cs
             → AreWaiting self.new.states.frames (numbered (committed_in surface all)) cs) }
-        ensures changes { IfOk result (λ told. (all : Asked) → Stand self.old.states self.old.family all → IsCommitTold surface all told.applied.changes.items) }
+        ensures changes { IfOk result (λ told. (all : Asked) → Stand self.old.states self.old.family all → IsCommitTold surface all told.changes.items) }
         ensures freed { IfOk result (λ told. (all : Asked) → Stand self.old.states self.old.family all
-            → AreFreed told.applied.freed.items (numbered all) (numbered (committed_in surface all))) }
+            → AreFreed told.freed.items (numbered all) (numbered (committed_in surface all))) }
         ensures shown { IfOk result (λ told. (all : Asked) → Stand self.old.states self.old.family all
             → AreShown (is_committed surface all) all (map buffer_of told.shown.items)) }
-        ensures among { IfOk result (λ told. AreAmong told.applied.freed.items (map buffer_of told.shown.items)) }
-        ensures callbacks { IfOk result (λ told. told.applied.callbacks.items ≡ []) }
+        ensures among { IfOk result (λ told. AreAmong told.freed.items (map buffer_of told.shown.items)) }
+        ensures callbacks { IfOk result (λ told. told.callbacks.items ≡ []) }
         ensures err { OnErr result (self.new ≡ self.old) }
         ensures cause { (all : Asked) → Stand self.old.states self.old.family all → MatchBool (is_whole_at (surface_at surface all)) (IfErr result (λ e. e ≡ SurfaceError.Memory)) (result ≡ Err SurfaceError.Size) }
     {
-        if !self.states.is_whole(surface) {
+        if !self.is_whole(surface) {
             return Err(SurfaceError::Size);
         }
-        if self.family.behaves_synchronised(surface) {
+        if self.behaves_synchronised(surface) {
             return self.hold(surface);
         }
         self.commit_now(surface)
     }
 
     /// A commit of a surface that behaves synchronised.
-    fn hold(&mut self, surface: SurfaceNo) -> Result<Told<A>, SurfaceError>
+    fn hold(&mut self, surface: SurfaceNo) -> Result<Applied<A>, SurfaceError>
         ensures ok { OnOk result ((all : Asked) → Stand self.old.states self.old.family all → Stand self.new.states self.new.family (with_change surface (asking Commit) all)) }
         ensures waits { OnOk result ((all : Asked) (cs : List Callback) → Stand self.old.states self.old.family all → AreWaiting self.old.states.frames (numbered all) cs
             → AreWaiting self.new.states.frames (numbered (with_change surface (asking Commit) all)) cs) }
-        ensures changes { IfOk result (λ told. told.applied.changes.items ≡ []) }
+        ensures changes { IfOk result (λ told. told.changes.items ≡ []) }
         ensures freed { IfOk result (λ told. (all : Asked) → Stand self.old.states self.old.family all
-            → AreFreed told.applied.freed.items (numbered all) (numbered (with_change surface (asking Commit) all))) }
+            → AreFreed told.freed.items (numbered all) (numbered (with_change surface (asking Commit) all))) }
         ensures shown { IfOk result (λ told. (all : Asked) → Stand self.old.states self.old.family all → AreShown (λ n. n == surface) all (map buffer_of told.shown.items)) }
-        ensures among { IfOk result (λ told. AreAmong told.applied.freed.items (map buffer_of told.shown.items)) }
-        ensures callbacks { IfOk result (λ told. told.applied.callbacks.items ≡ []) }
+        ensures among { IfOk result (λ told. AreAmong told.freed.items (map buffer_of told.shown.items)) }
+        ensures callbacks { IfOk result (λ told. told.callbacks.items ≡ []) }
         ensures err { OnErr result (self.new ≡ self.old) }
         ensures cause { IfErr result (λ e. e ≡ SurfaceError.Memory) }
     {
@@ -95,28 +86,28 @@ impl<A: Allocator + Copy> Surfaces<A> {
         self.states.hold(surface)?;
         self.family.hold(surface);
         add_freed(&self.states, &shown, &mut freed);
-        let applied = Applied {
+        Ok(Applied {
             changes: Vec::new(alloc),
             freed,
             callbacks: Vec::new(alloc),
-        };
-        Ok(Told { applied, shown })
+            shown,
+        })
     }
 
     /// A commit of a surface that doesn't.
-    fn commit_now(&mut self, surface: SurfaceNo) -> Result<Told<A>, SurfaceError>
+    fn commit_now(&mut self, surface: SurfaceNo) -> Result<Applied<A>, SurfaceError>
         ensures ok { OnOk result ((all : Asked) → Stand self.old.states self.old.family all
             → Stand self.new.states self.new.family (applied_tree levels surface (with_change surface (asking Commit) all))) }
         ensures waits { OnOk result ((all : Asked) (cs : List Callback) → Stand self.old.states self.old.family all → AreWaiting self.old.states.frames (numbered all) cs
             → AreWaiting self.new.states.frames (numbered (applied_tree levels surface (with_change surface (asking Commit) all))) cs) }
         ensures changes { IfOk result (λ told. (all : Asked) → Stand self.old.states self.old.family all
-            → IsTold surface (with_change surface (asking Commit) all) told.applied.changes.items) }
+            → IsTold surface (with_change surface (asking Commit) all) told.changes.items) }
         ensures freed { IfOk result (λ told. (all : Asked) → Stand self.old.states self.old.family all
-            → AreFreed told.applied.freed.items (numbered all) (numbered (applied_tree levels surface (with_change surface (asking Commit) all)))) }
+            → AreFreed told.freed.items (numbered all) (numbered (applied_tree levels surface (with_change surface (asking Commit) all)))) }
         ensures shown { IfOk result (λ told. (all : Asked) → Stand self.old.states self.old.family all
             → AreShown (descends_from 16 all surface) all (map buffer_of told.shown.items)) }
-        ensures among { IfOk result (λ told. AreAmong told.applied.freed.items (map buffer_of told.shown.items)) }
-        ensures callbacks { IfOk result (λ told. told.applied.callbacks.items ≡ []) }
+        ensures among { IfOk result (λ told. AreAmong told.freed.items (map buffer_of told.shown.items)) }
+        ensures callbacks { IfOk result (λ told. told.callbacks.items ≡ []) }
         ensures err { OnErr result (self.new ≡ self.old) }
         ensures cause { IfErr result (λ e. e ≡ SurfaceError.Memory) }
     {
@@ -129,28 +120,28 @@ impl<A: Allocator + Copy> Surfaces<A> {
     /// wl_subsurface.set_desync: the child's commits are applied at once, unless a surface above it
     /// is synchronised. If it behaved synchronised and doesn't any more, its held state is applied.
     /// Without a link nothing changes and nothing is told. Without memory nothing changes.
-    pub fn set_desync(&mut self, child: SurfaceNo) -> Result<Told<A>, SurfaceError>
+    pub fn set_desync(&mut self, child: SurfaceNo) -> Result<Applied<A>, SurfaceError>
         ensures ok { OnOk result ((all : Asked) (number : ℕ) (link : Link) → IsLink all number child link → Stand self.old.states self.old.family all
             → Stand self.new.states self.new.family (desynchronised_in number all)) }
         ensures waits { OnOk result ((all : Asked) (number : ℕ) (link : Link) (cs : List Callback) → IsLink all number child link → Stand self.old.states self.old.family all
             → AreWaiting self.old.states.frames (numbered all) cs → AreWaiting self.new.states.frames (numbered (desynchronised_in number all)) cs) }
         ensures changes { IfOk result (λ told. (all : Asked) (number : ℕ) (link : Link) → IsLink all number child link → Stand self.old.states self.old.family all
-            → IsDesyncTold number child all told.applied.changes.items) }
+            → IsDesyncTold number child all told.changes.items) }
         ensures freed { IfOk result (λ told. (all : Asked) (number : ℕ) (link : Link) → IsLink all number child link → Stand self.old.states self.old.family all
-            → AreFreed told.applied.freed.items (numbered all) (numbered (desynchronised_in number all))) }
+            → AreFreed told.freed.items (numbered all) (numbered (desynchronised_in number all))) }
         ensures shown { IfOk result (λ told. (all : Asked) (number : ℕ) (link : Link) → IsLink all number child link → Stand self.old.states self.old.family all
             → AreShown (is_released number child all) all (map buffer_of told.shown.items)) }
-        ensures among { IfOk result (λ told. AreAmong told.applied.freed.items (map buffer_of told.shown.items)) }
-        ensures callbacks { IfOk result (λ told. told.applied.callbacks.items ≡ []) }
+        ensures among { IfOk result (λ told. AreAmong told.freed.items (map buffer_of told.shown.items)) }
+        ensures callbacks { IfOk result (λ told. told.callbacks.items ≡ []) }
         ensures none { links_in self.old.family child ≡ None → OnOk result (self.new ≡ self.old) }
         ensures silent { links_in self.old.family child ≡ None → IfOk result TellsNothing }
         ensures err { OnErr result (self.new ≡ self.old) }
         ensures cause { IfErr result (λ e. e ≡ SurfaceError.Memory) }
     {
-        if self.family.link(child).is_none() {
+        if self.link(child).is_none() {
             return Ok(self.nothing());
         }
-        let was_synchronised = self.family.behaves_synchronised(child);
+        let was_synchronised = self.behaves_synchronised(child);
         let room = self.room(child, Vec::new(self.alloc))?;
         self.family.set_synchronised(child, false);
         let is_synchronised = self.family.behaves_synchronised(child);
@@ -163,25 +154,25 @@ impl<A: Allocator + Copy> Surfaces<A> {
     /// wl_subsurface.destroy: the link of the child ends, and the child is applied with its
     /// descendants. Without a link nothing changes and nothing is told. Without memory nothing
     /// changes.
-    pub fn remove_subsurface(&mut self, child: SurfaceNo) -> Result<Told<A>, SurfaceError>
+    pub fn remove_subsurface(&mut self, child: SurfaceNo) -> Result<Applied<A>, SurfaceError>
         ensures ok { OnOk result ((all : Asked) (number : ℕ) (link : Link) → IsLink all number child link → Stand self.old.states self.old.family all
             → Stand self.new.states self.new.family (ended_in all link)) }
         ensures waits { OnOk result ((all : Asked) (number : ℕ) (link : Link) (cs : List Callback) → IsLink all number child link → Stand self.old.states self.old.family all
             → AreWaiting self.old.states.frames (numbered all) cs → AreWaiting self.new.states.frames (numbered (ended_in all link)) cs) }
         ensures changes { IfOk result (λ told. (all : Asked) (number : ℕ) (link : Link) → IsLink all number child link → Stand self.old.states self.old.family all
-            → IsTold child (with_link number ending all) told.applied.changes.items) }
+            → IsTold child (with_link number ending all) told.changes.items) }
         ensures freed { IfOk result (λ told. (all : Asked) (number : ℕ) (link : Link) → IsLink all number child link → Stand self.old.states self.old.family all
-            → AreFreed told.applied.freed.items (numbered all) (numbered (ended_in all link))) }
+            → AreFreed told.freed.items (numbered all) (numbered (ended_in all link))) }
         ensures shown { IfOk result (λ told. (all : Asked) (number : ℕ) (link : Link) → IsLink all number child link → Stand self.old.states self.old.family all
             → AreShown (descends_from 16 all child) all (map buffer_of told.shown.items)) }
-        ensures among { IfOk result (λ told. AreAmong told.applied.freed.items (map buffer_of told.shown.items)) }
-        ensures callbacks { IfOk result (λ told. told.applied.callbacks.items ≡ []) }
+        ensures among { IfOk result (λ told. AreAmong told.freed.items (map buffer_of told.shown.items)) }
+        ensures callbacks { IfOk result (λ told. told.callbacks.items ≡ []) }
         ensures none { links_in self.old.family child ≡ None → OnOk result (self.new ≡ self.old) }
         ensures silent { links_in self.old.family child ≡ None → IfOk result TellsNothing }
         ensures err { OnErr result (self.new ≡ self.old) }
         ensures cause { IfErr result (λ e. e ≡ SurfaceError.Memory) }
     {
-        if self.family.link(child).is_none() {
+        if self.link(child).is_none() {
             return Ok(self.nothing());
         }
         let room = self.room(child, Vec::new(self.alloc))?;
@@ -191,18 +182,18 @@ impl<A: Allocator + Copy> Surfaces<A> {
 
     /// wl_surface.destroy: the surface is gone with its frame requests. Its links end, to its
     /// parent and to its children, and its descendants are applied. Without memory nothing changes.
-    pub fn destroy(&mut self, surface: SurfaceNo) -> Result<Told<A>, SurfaceError>
+    pub fn destroy(&mut self, surface: SurfaceNo) -> Result<Applied<A>, SurfaceError>
         ensures ok { OnOk result ((all : Asked) → Stand self.old.states self.old.family all → Stand self.new.states self.new.family (destroyed_in surface all)) }
         ensures waits { OnOk result ((all : Asked) (cs : List Callback) → Stand self.old.states self.old.family all → AreWaiting self.old.states.frames (numbered all) cs
             → AreWaiting self.new.states.frames (numbered (destroyed_in surface all)) (filter (λ c. not (is_in (frames_at (surface_at surface all)) c)) cs)) }
-        ensures changes { IfOk result (λ told. (all : Asked) → Stand self.old.states self.old.family all → IsEndTold surface all told.applied.changes.items) }
+        ensures changes { IfOk result (λ told. (all : Asked) → Stand self.old.states self.old.family all → IsEndTold surface all told.changes.items) }
         ensures freed { IfOk result (λ told. (all : Asked) → Stand self.old.states self.old.family all
-            → AreFreed told.applied.freed.items (numbered all) (numbered (destroyed_in surface all))) }
+            → AreFreed told.freed.items (numbered all) (numbered (destroyed_in surface all))) }
         ensures shown { IfOk result (λ told. (all : Asked) → Stand self.old.states self.old.family all
             → AreShown (descends_from 16 all surface) all (map buffer_of told.shown.items)) }
-        ensures among { IfOk result (λ told. AreAmong told.applied.freed.items (map buffer_of told.shown.items)) }
+        ensures among { IfOk result (λ told. AreAmong told.freed.items (map buffer_of told.shown.items)) }
         ensures callbacks { IfOk result (λ told. (all : Asked) (cs : List Callback) → AreWaiting self.old.states.frames (numbered all) cs
-            → told.applied.callbacks.items ≡ map (λ (c : Callback). c.id) (filter (is_in (frames_at (surface_at surface all))) cs)) }
+            → told.callbacks.items ≡ map (λ (c : Callback). c.id) (filter (is_in (frames_at (surface_at surface all))) cs)) }
         ensures err { OnErr result (self.new ≡ self.old) }
         ensures cause { IfErr result (λ e. e ≡ SurfaceError.Memory) }
     {
@@ -210,29 +201,26 @@ impl<A: Allocator + Copy> Surfaces<A> {
         let room = self.room(surface, own)?;
         let callbacks = self.states.destroy(surface)?;
         self.family.remove(surface);
-        let Told { applied, shown } = self.apply_tree(room);
-        let applied = Applied {
+        let applied = self.apply_tree(room);
+        Ok(Applied {
             changes: applied.changes,
             freed: applied.freed,
             callbacks,
-        };
-        Ok(Told { applied, shown })
+            shown: applied.shown,
+        })
     }
 
     /// An answer that tells nothing.
-    fn nothing(&self) -> Told<A>
-        ensures changes { result.applied.changes.items ≡ [] }
-        ensures freed { result.applied.freed.items ≡ [] }
-        ensures callbacks { result.applied.callbacks.items ≡ [] }
+    fn nothing(&self) -> Applied<A>
+        ensures changes { result.changes.items ≡ [] }
+        ensures freed { result.freed.items ≡ [] }
+        ensures callbacks { result.callbacks.items ≡ [] }
         ensures shown { result.shown.items ≡ [] }
     {
-        let applied = Applied {
+        Applied {
             changes: Vec::new(self.alloc),
             freed: Vec::new(self.alloc),
             callbacks: Vec::new(self.alloc),
-        };
-        Told {
-            applied,
             shown: Vec::new(self.alloc),
         }
     }
@@ -241,7 +229,7 @@ impl<A: Allocator + Copy> Surfaces<A> {
     fn is_shown(&self, surface: SurfaceNo) -> bool
         ensures { (all : Numbered) → StandForAll self.now.states all → result ≡ is_shown_at (all surface) }
     {
-        match self.states.current(surface) {
+        match self.current(surface) {
             Some(current) => current.buffer.is_some(),
             None => false,
         }
@@ -284,17 +272,17 @@ impl<A: Allocator + Copy> Surfaces<A> {
     }
 
     /// Applies these surfaces, and tells what that changes.
-    fn apply_tree(&mut self, room: Room<A>) -> Told<A>
+    fn apply_tree(&mut self, room: Room<A>) -> Applied<A>
         requires room { HasRoom room }
         ensures stand { (all : Numbered) → StandForAll self.old.states all → StandForAll self.new.states (applied_among room.below.items all) }
         ensures waits { (all : Numbered) (cs : List Callback) → AreWaiting self.old.states.frames all cs
             → AreWaiting self.new.states.frames (applied_among room.below.items all) cs }
-        ensures told { (all : Numbered) → StandForAll self.old.states all → AreOnce room.below.items → AreToldAfter room.changes.items room.below.items all result.applied.changes.items }
+        ensures told { (all : Numbered) → StandForAll self.old.states all → AreOnce room.below.items → AreToldAfter room.changes.items room.below.items all result.changes.items }
         ensures freed { (all : Numbered) → StandForAll self.new.states all → (buffer : ℕ) (is : Bool) → IsAny (shows_at buffer) all is
-            → count_by (λ n. n == buffer) result.applied.freed.items ≡ cond (is_among (numbers_of (map buffer_of room.shown.items)) buffer && not is) 1 0 }
+            → count_by (λ n. n == buffer) result.freed.items ≡ cond (is_among (numbers_of (map buffer_of room.shown.items)) buffer && not is) 1 0 }
         ensures shown { result.shown.items ≡ room.shown.items }
-        ensures among { AreAmong result.applied.freed.items (map buffer_of result.shown.items) }
-        ensures callbacks { result.applied.callbacks.items ≡ [] }
+        ensures among { AreAmong result.freed.items (map buffer_of result.shown.items) }
+        ensures callbacks { result.callbacks.items ≡ [] }
         ensures links { links_in self.new.family ≡ links_in self.old.family }
         ensures places { self.new.family.places ≡ self.old.family.places }
         ensures stacks { stacks_in self.new.family ≡ stacks_among room.below.items (stacks_in self.old.family) }
@@ -308,13 +296,10 @@ impl<A: Allocator + Copy> Surfaces<A> {
             &mut changes,
         );
         add_freed(&self.states, &room.shown, &mut freed);
-        let applied = Applied {
+        Applied {
             changes,
             freed,
             callbacks: Vec::new(self.alloc),
-        };
-        Told {
-            applied,
             shown: room.shown,
         }
     }

@@ -84,7 +84,7 @@ fn copy_of<A: Allocator + Copy>(region: &Region<A>) -> Result<Region<A>, Surface
 
 impl<A: Allocator + Copy> SurfaceStates<A> {
     /// No surfaces.
-    pub fn new(alloc: A) -> Self
+    pub(crate) fn new(alloc: A) -> Self
         ensures stand { StandForAll result nobody }
         ensures count { count result ≡ 0 }
         ensures frames { result.frames ≡ [] }
@@ -105,7 +105,7 @@ impl<A: Allocator + Copy> SurfaceStates<A> {
 
     /// wl_compositor.create_surface: a surface of which nothing was asked, under a number that no
     /// other has. A client may have 256 surfaces. On an error nothing changes.
-    pub fn create(&mut self) -> Result<SurfaceNo, SurfaceError>
+    pub(crate) fn create(&mut self) -> Result<SurfaceNo, SurfaceError>
         ensures ok { IfOk result (λ number. (all : Numbered) (id : ℕ) → StandForAll self.old all
             → (all number ≡ None) × StandForAll self.new (with_at number (Some (new_surface id)) all)) }
         ensures count { OnOk result (count self.new ≡ count self.old + 1) }
@@ -124,7 +124,7 @@ impl<A: Allocator + Copy> SurfaceStates<A> {
 
     /// wl_surface.set_opaque_region of a copy of the region, in surface pixels, or of none: then no
     /// point is said to be opaque. Without memory nothing changes.
-    pub fn set_opaque(
+    pub(crate) fn set_opaque(
         &mut self,
         surface: SurfaceNo,
         region: Option<&Region<A>>,
@@ -143,7 +143,7 @@ impl<A: Allocator + Copy> SurfaceStates<A> {
 
     /// wl_surface.set_input_region of a copy of the region, in surface pixels, or of none: then
     /// each point takes input. Without memory nothing changes.
-    pub fn set_input(
+    pub(crate) fn set_input(
         &mut self,
         surface: SurfaceNo,
         region: Option<&Region<A>>,
@@ -209,7 +209,7 @@ impl<A: Allocator + Copy> SurfaceStates<A> {
 impl<A: Allocator> SurfaceStates<A> {
     /// wl_surface.frame: a callback that waits until a commit applies it and a frame is shown.
     /// Without memory nothing changes.
-    pub fn frame(&mut self, surface: SurfaceNo, callback: u32) -> Result<(), SurfaceError>
+    pub(crate) fn frame(&mut self, surface: SurfaceNo, callback: u32) -> Result<(), SurfaceError>
         ensures ok { OnOk result ((n : ℕ) → Changes self.old self.new surface (asking (Frame n))) }
         ensures frames { OnOk result (self.new.frames ≡ (if is_some (kept_at self.old surface) then self.old.frames ++ record { surface = surface; callback = callback; is_held = false; is_applied = false } ∷ [] else self.old.frames)) }
         ensures waits { OnOk result ((all : Numbered) (cs : List Callback) → StandForAll self.old all → AreWaiting self.old.frames all cs → is_some (all surface) ≡ true → (n : ℕ) → IsNewNumber n all cs
@@ -249,7 +249,7 @@ impl<A: Allocator> SurfaceStates<A> {
 
     /// Takes out the applied callback that was requested first, if there is one. It is answered at
     /// the next frame that is shown (wayland.xml, wl_surface.frame).
-    pub fn next_frame(&mut self) -> Option<u32>
+    pub(crate) fn next_frame(&mut self) -> Option<u32>
         ensures next { result ≡ next_of self.old.frames }
         ensures frames { self.new.frames ≡ without_next self.old.frames }
         ensures places { self.new.places ≡ self.old.places }
@@ -265,7 +265,7 @@ impl<A: Allocator> SurfaceStates<A> {
 
     /// wl_surface.attach of a buffer, or of none, at this offset in pixels. It is pending until the
     /// next commit.
-    pub fn attach(&mut self, surface: SurfaceNo, buffer: Option<Attached>, x: i32, y: i32)
+    pub(crate) fn attach(&mut self, surface: SurfaceNo, buffer: Option<Attached>, x: i32, y: i32)
         ensures changes { Changes self.old self.new surface (asking (Attach (option_map buffer_of buffer) x y)) }
         ensures frames { self.new.frames ≡ self.old.frames }
     {
@@ -275,7 +275,7 @@ impl<A: Allocator> SurfaceStates<A> {
     }
 
     /// wl_surface.damage of a rectangle in surface pixels. Without memory nothing changes.
-    pub fn damage(&mut self, surface: SurfaceNo, rect: Rect) -> Result<(), SurfaceError>
+    pub(crate) fn damage(&mut self, surface: SurfaceNo, rect: Rect) -> Result<(), SurfaceError>
         ensures ok { OnOk result (Changes self.old self.new surface (asking (Damage rect))) }
         ensures frames { self.new.frames ≡ self.old.frames }
         ensures err { OnErr result (self.new ≡ self.old) }
@@ -289,7 +289,11 @@ impl<A: Allocator> SurfaceStates<A> {
 
     /// wl_surface.damage_buffer of a rectangle in pixels of the buffer. Without memory nothing
     /// changes.
-    pub fn damage_buffer(&mut self, surface: SurfaceNo, rect: Rect) -> Result<(), SurfaceError>
+    pub(crate) fn damage_buffer(
+        &mut self,
+        surface: SurfaceNo,
+        rect: Rect,
+    ) -> Result<(), SurfaceError>
         ensures ok { OnOk result (Changes self.old self.new surface (asking (DamageBuffer rect))) }
         ensures frames { self.new.frames ≡ self.old.frames }
         ensures err { OnErr result (self.new ≡ self.old) }
@@ -340,7 +344,11 @@ impl<A: Allocator> SurfaceStates<A> {
 
     /// wl_surface.set_buffer_transform to one of the eight transforms. Any other number is refused
     /// as `Transform`, and changes nothing.
-    pub fn set_transform(&mut self, surface: SurfaceNo, transform: i32) -> Result<(), SurfaceError>
+    pub(crate) fn set_transform(
+        &mut self,
+        surface: SurfaceNo,
+        transform: i32,
+    ) -> Result<(), SurfaceError>
         ensures ok { OnOk result (Changes self.old self.new surface (asking (SetBufferTransform (unsigned_abs transform)))) }
         ensures frames { self.new.frames ≡ self.old.frames }
         ensures valid { IsOk result ↔ (is_transform transform ≡ true) }
@@ -365,7 +373,7 @@ impl<A: Allocator> SurfaceStates<A> {
 
     /// wl_surface.set_buffer_scale: this many pixels of the buffer, to the right and down, are one
     /// of the surface. A number below 1 is refused as `Scale`, and changes nothing.
-    pub fn set_scale(&mut self, surface: SurfaceNo, scale: i32) -> Result<(), SurfaceError>
+    pub(crate) fn set_scale(&mut self, surface: SurfaceNo, scale: i32) -> Result<(), SurfaceError>
         ensures ok { OnOk result (Changes self.old self.new surface (asking (SetBufferScale (unsigned_abs scale)))) }
         ensures frames { self.new.frames ≡ self.old.frames }
         ensures valid { IsOk result ↔ (is_scale scale ≡ true) }
@@ -382,7 +390,7 @@ impl<A: Allocator> SurfaceStates<A> {
 
     /// Gives a surface its role, for life. It is refused as `Role` exactly if it has another one,
     /// and nothing changes then.
-    pub fn give_role(&mut self, surface: SurfaceNo, role: Role) -> Result<(), SurfaceError>
+    pub(crate) fn give_role(&mut self, surface: SurfaceNo, role: Role) -> Result<(), SurfaceError>
         ensures ok { OnOk result (Changes self.old self.new surface (with_role role)) }
         ensures frames { self.new.frames ≡ self.old.frames }
         ensures err { OnErr result (self.new ≡ self.old) }

@@ -1,7 +1,7 @@
 //! The surfaces of a client with the links between them.
 
 ghost use Rattle.std.specs.Prelude.{ℕ, [], ◌≡◌, ◌≢◌, true, false, is_some, IfErr, OnErr, OnOk, Option, Some, None, Err};
-ghost use Rattle.wl_links.specs.Family.{is_bad_sibling, links_in, member_of};
+ghost use Rattle.wl_links.specs.Family.{is_bad_sibling, links_in, member_of, stacks_in};
 ghost use Rattle.wl_surface.specs.Linked.{IsLink, IsRefused, Stand, is_other_role, is_taken, link_refusal, surface_error};
 ghost use Rattle.wl_surface.specs.Request.{Member, PlaceAbove, PlaceBelow, SetPosition};
 ghost use Rattle.wl_surface.specs.Surface.{asking};
@@ -14,15 +14,24 @@ use crate::error::SurfaceError;
 use crate::role::Role;
 use crate::states::{SurfaceNo, SurfaceStates};
 use std::alloc::Allocator;
+use std::marker::Model;
 use wl_links::{Family, PlaceError, Side};
 
-/// The surfaces of a client, and how they hang together. What is asked of one surface by itself is asked of `states`; what is asked of a
-/// link, and what applies a tree, of both.
+/// The surfaces of a client, and how they hang together: what is kept of each by itself, and of the
+/// links between them.
 #[derive(Drop)]
 pub struct Surfaces<A: Allocator> {
-    pub states: SurfaceStates<A>,
-    pub family: Family<A>,
+    pub(crate) states: SurfaceStates<A>,
+    pub(crate) family: Family<A>,
     pub(crate) alloc: A,
+}
+
+impl<A: Allocator> Model for Surfaces<A> {
+    ghost use Rattle.wl_surface.specs.Linked.{SurfacesView};
+
+    ghost Value = { SurfacesView };
+
+    ghost view = { λ surfaces. record { states = surfaces.states; family = surfaces.family } };
 }
 
 /// Why a child isn't placed, among the errors of surfaces.
@@ -58,14 +67,16 @@ impl<A: Allocator + Copy> Surfaces<A> {
         }
     }
 
-    /// wl_subcompositor.get_subsurface: a link from a child to its parent. The child is a subsurface from now on, synchronised at first, and
-    /// topmost, at (0, 0), once the parent is committed and applied.
+    /// wl_subcompositor.get_subsurface: a link from a child to its parent. The child is a
+    /// subsurface from now on, synchronised at first, and topmost, at (0, 0), once the parent is
+    /// committed and applied.
     ///
     /// # Errors
     ///
-    /// In this order: `TooDeep` where there would be more than 16 levels below a root, `Role` where the child has another role or a link that
-    /// lives, `BadParent` where the parent is the child or descends from it, `Memory`. The first three change nothing. Without memory the
-    /// surfaces and links are the same; a place for either surface may stay in the family.
+    /// In this order: `TooDeep` where there would be more than 16 levels below a root, `Role` where
+    /// the child has another role or a link that lives, `BadParent` where the parent is the child
+    /// or descends from it, `Memory`. The first three change nothing. Without memory the surfaces,
+    /// links and stacks are the same; a place for either surface may stay in the family.
     pub fn subsurface(&mut self, child: SurfaceNo, parent: SurfaceNo) -> Result<(), SurfaceError>
         ensures ok { OnOk result ((all : Asked) (number : ℕ) → Stand self.old.states self.old.family all → link_at number all ≡ None
             → is_some (surface_at child all) ≡ true → is_some (surface_at parent all) ≡ true
@@ -74,15 +85,17 @@ impl<A: Allocator + Copy> Surfaces<A> {
         ensures err { OnErr result ((all : Asked) → Stand self.old.states self.old.family all
             → is_some (surface_at child all) ≡ true → is_some (surface_at parent all) ≡ true → Stand self.new.states self.new.family all) }
         ensures unchanged { (all : Asked) → Stand self.old.states self.old.family all → IfErr result (λ e. e ≢ SurfaceError.Memory → self.new ≡ self.old) }
+        ensures kept { (all : Asked) → Stand self.old.states self.old.family all → OnErr result ((self.new.states ≡ self.old.states)
+            × (links_in self.new.family ≡ links_in self.old.family) × (stacks_in self.new.family ≡ stacks_in self.old.family)) }
         ensures frames { self.new.states.frames ≡ self.old.states.frames }
     {
-        if self.family.is_too_deep(child, parent) {
+        if self.is_too_deep(child, parent) {
             return Err(SurfaceError::TooDeep);
         }
         if self.is_taken(child) {
             return Err(SurfaceError::Role);
         }
-        if self.family.is_under(child, parent) {
+        if self.is_under(child, parent) {
             return Err(SurfaceError::BadParent);
         }
         self.family.join(child, parent)?;
@@ -94,7 +107,7 @@ impl<A: Allocator + Copy> Surfaces<A> {
         ensures taken { (all : Asked) → Stand self.now.states self.now.family all → result ≡ is_taken all child }
         ensures free { result ≡ false → links_in self.now.family child ≡ None }
     {
-        is_other_role(self.states.role(child)) || self.family.link(child).is_some()
+        is_other_role(self.role(child)) || self.link(child).is_some()
     }
 
     /// wl_subsurface.set_position: sets the place of the child's upper left corner, in pixels right
@@ -108,7 +121,7 @@ impl<A: Allocator + Copy> Surfaces<A> {
         ensures err { OnErr result (self.new ≡ self.old) }
         ensures cause { IfErr result (λ e. e ≡ SurfaceError.Memory) }
     {
-        if self.family.link(child).is_none() {
+        if self.link(child).is_none() {
             return Ok(());
         }
         self.family.set_position(child, x, y)?;
@@ -138,7 +151,7 @@ impl<A: Allocator + Copy> Surfaces<A> {
         ensures surfaces { self.new.states ≡ self.old.states }
         ensures err { OnErr result (self.new ≡ self.old) }
     {
-        if self.family.link(child).is_none() {
+        if self.link(child).is_none() {
             return Ok(());
         }
         match self.family.place(child, sibling, side) {
@@ -183,7 +196,7 @@ impl<A: Allocator + Copy> Surfaces<A> {
         ensures none { links_in self.old.family child ≡ None → self.new ≡ self.old }
         ensures surfaces { self.new.states ≡ self.old.states }
     {
-        if self.family.link(child).is_none() {
+        if self.link(child).is_none() {
             return;
         }
         self.family.set_synchronised(child, true);

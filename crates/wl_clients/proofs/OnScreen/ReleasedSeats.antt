@@ -10,7 +10,7 @@ use Rattle.wl_proto.specs.declared.interface.Interface.TheVariants.{WlSurface}
 use Rattle.wl_scene.specs.StackedAgreement.{AreStacked, IsStacked}
 use Rattle.wl_scene.proofs.Standing.{any-same}
 use Rattle.law_desktop.specs.Ordered.{Ordered, OwnsOrdered}
-use Rattle.wl_surface.specs.declared.surfaces.Surfaces.{Surfaces as KeptSurfaces}
+use Rattle.wl_surface.specs.Linked.{SurfacesView}
 use Rattle.law_desktop.specs.Owning.{IsOwned, by_number, targets_in}
 use Rattle.law_desktop.specs.RoleNames.{names_of}
 use Rattle.law_desktop.specs.Subsurfaces.{AreOfSurfaces}
@@ -193,7 +193,7 @@ module _ {A : Type 0} (laws : ReleaseLaws) (c : ℕ) (others : ℕ → ById ℕ)
     framed =
         subst (λ (held : Held). AreFramed new.owned.surfaces.states.frames (by_number (targets_in WlSurface held) r.owned.surfaces) (released.0.requests + 1) r.callbacks) (sym objects)
         (subst (λ (n : ℕ). AreFramed new.owned.surfaces.states.frames (by_number (targets_in WlSurface old.client.objects) r.owned.surfaces) (n + 1) r.callbacks) (sym stays.1)
-        (subst (λ (l : KeptSurfaces A). AreFramed l.states.frames (by_number (targets_in WlSurface old.client.objects) r.owned.surfaces) (r.peer.requests + 1) r.callbacks) (sym linked)
+        (subst (λ (l : SurfacesView). AreFramed l.states.frames (by_number (targets_in WlSurface old.client.objects) r.owned.surfaces) (r.peer.requests + 1) r.callbacks) (sym linked)
         before.seat.frames))
 
     sits : IsSeat (opened new.client) (owned_view (opened_kept new)) (released_as released.0 r)

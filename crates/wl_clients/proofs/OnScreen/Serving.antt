@@ -4,7 +4,7 @@ use Rattle.std.proofs.Common.{arith, ◌≡◌, ℕ, ◌<◌, ◌≤◌, Bool, t
 use Rattle.std.specs.Prelude.{pos, ◌||◌, Result, Ok, Err, is_some, length}
 use Rattle.std.specs.List.{list_any}
 use Rattle.std.proofs.lemmas.List.{length-map}
-use Rattle.std.proofs.lemmas.Bool.{true≢false}
+use Rattle.std.proofs.lemmas.Bool.{and_from, false_from_ne_true, or_left, or_parts, or_right, true≢false}
 use Rattle.wl_wire.specs.declared.header.Split.{Split}
 use Rattle.wl_wire.specs.declared.header.Split.TheVariants.{Message as Whole, More, Bad}
 use Rattle.spec_desktop.specs.declared.refusals.ErrorCode.TheVariants.{InvalidMethod}
@@ -19,16 +19,18 @@ use Rattle.spec_desktop.specs.Changing.{changed_for}
 use Rattle.spec_desktop.specs.Demand.{Demand}
 use Rattle.spec_desktop.specs.Desktop.{Desktop, Resident, owned_in}
 use Rattle.spec_desktop.specs.Marks.{in_output}
+use Rattle.spec_desktop.specs.Moments.{marks_at_least, marks_at_most}
 use Rattle.spec_desktop.specs.Stacked.{all_windows}
 use Rattle.spec_desktop.specs.Step.{with_peer}
 use Rattle.wl_scene.specs.StackedAgreement.{AreStacked}
-use Rattle.law_desktop.specs.Renaming.{has_surface}
+use Rattle.law_desktop.specs.Renaming.{AreToldApart, has_surface}
 use Rattle.law_desktop.specs.NamedPopups.{renamed_owned}
 use Rattle.law_desktop.specs.Shown.{ShownStand}
 use Rattle.law_desktop.specs.TreeStepsLaws.{IsRootOf}
 use Rattle.law_desktop.specs.Ordered.{OwnsOrdered}
 use Rattle.law_desktop.proofs.Keeping.OwningTies.{number-of-name}
-use Rattle.wl_scene.specs.Repaint.{AreTogether, marks_trees, window_has}
+use Rattle.law_desktop.proofs.Truth.{differ}
+use Rattle.wl_scene.specs.Repaint.{AreTogether, window_has}
 use Rattle.wl_scene.specs.Kept.{Stack}
 use Rattle.spec_desktop.specs.Stacking.{Owned, Standing}
 use Rattle.spec_desktop.specs.Windows.{Owner}
@@ -45,7 +47,7 @@ use Rattle.law_desktop.specs.Messages.{IsDemanded}
 use Rattle.law_desktop.specs.Toplevel.{ChangesToplevel}
 use Rattle.law_desktop.proofs.RootsOf.Meant.{judged-is-meant}
 use Rattle.law_windows.specs.Runs.Kept.{IsNumbered}
-use Rattle.law_windows.specs.Runs.Marks.{AddsRun}
+use Rattle.law_windows.specs.Runs.Marks.{AddsRun, IsTold as IsRunTold}
 use Rattle.law_windows.proofs.OneToplevel.Gone.{gone-run-adds}
 use Rattle.law_windows.proofs.OneToplevel.Marked.{adds-at-least, adds-at-most}
 use Rattle.law_windows.proofs.OneToplevel.Turned.{run-was-told}
@@ -58,11 +60,14 @@ use Rattle.wl_clients.specs.Finding.{found_by, parent_by, popup_in_shell}
 use Rattle.wl_clients.specs.Marking.{MarksAtLeast, MarksMost}
 use Rattle.wl_clients.specs.Screens.{AreToldIf, IsRunHeldIf, changes_in, restacked_if, run_kept, run_on, turned_if}
 use Rattle.wl_clients.specs.Seats.{IsRestacked, IsSeated}
+use Rattle.wl_clients.specs.Staying.{marks_moved}
 use Rattle.wl_clients.specs.View.{Pile}
 use Rattle.wl_clients.proofs.OnScreen.After.{HoldsAs, run-fits, run-held, run-is}
+use Rattle.wl_clients.proofs.OnScreen.Least.{moved-least}
 use Rattle.wl_clients.proofs.OnScreen.Numbers as seat
 use Rattle.wl_clients.proofs.OnScreen.Restacking.{Moves, moves, out-empty, stack-turned, windows-restacked}
 use Rattle.wl_clients.proofs.OnScreen.Sitting.{numbers}
+use Rattle.wl_clients.proofs.OnScreen.Stays.{moved-most}
 use Rattle.wl_clients.proofs.OnScreen.Turning.{Turns, TurnsRun, untouched-least, untouched-most}
 use Rattle.wl_clients.proofs.OnScreen.Turning as turning
 
@@ -226,14 +231,14 @@ module _ {A : Type 0} (between : MarksByTreesBetween) (c : ℕ) (others : ℕ �
       points-of = subst (λ (o : Option ℕ). Points o stacking) t.is_found points
 
       abbrev Adds : List TreeWindow → List TreeWindow → List (Change A) → Type 0
-      Adds before_it after_it list = AreTogether before_it → AreTogether after_it → AddsPoints (marks_trees before_it after_it list) d0 d2
+      Adds before_it after_it list = AreTogether before_it → AreTogether after_it → AddsPoints (marks_moved before_it after_it list) d0 d2
 
       adds-out : (n : ℕ) → stacking ≡ on.Out n → AddsRun f told.list step.was step.is d0 d2
       adds-out n out =
           gone-run-adds A f told.list step.was step.is d0 d2 (none-left n out)
           (subst (λ (ws : List TreeWindow). AddsPoints (λ x y. list_any (window_has x y) ws) d0 d2) kept-told (subst (Points (Some t.number)) out points-of tt))
 
-      adds-stays : ((n : ℕ) → stacking ≡ on.Out n → ⊥) → AddsRun f told.list step.was step.is d0 d2
+      adds-stays : ((n : ℕ) → stacking ≡ on.Out n → ⊥) → Adds (map (told_by f) step.was) (map (told_by f) step.is) told.list
       adds-stays never =
           let so = told.stays never in
           subst (λ (l : List (Change A)). Adds (map (told_by f) step.was) (map (told_by f) step.is) l) (sym so.1)
@@ -246,12 +251,46 @@ module _ {A : Type 0} (between : MarksByTreesBetween) (c : ℕ) (others : ℕ �
           unless-out on.Stays out h = λ a b. h (a, b)
           unless-out (on.ToTop n) out h = λ a b. h (a, b)
 
-      pub run-adds : AddsRun f told.list step.was step.is d0 d2
-      run-adds = at (is-out stacking)
+      run-told : IsRunTold c d e f told.list
+      run-told = record {
+        shown_before = before.mapped;
+        shown_after = shown;
+        apart = subst (λ (o : Owned). AreToldApart f o.surfaces) (sym (seat.owned-here c others base d r old pile before)) (seat.renaming c others base d r old pile before).apart;
+        stay = turning.comes c others base d r old pile before trees owns demand p e meant did after shown told.id surface told.touches told.named top-k;
+        tells = subst (λ (o : Owned). TellsTrees f told.list o.surfaces (owned_in e c).surfaces) (sym (seat.owned-here c others base d r old pile before))
+            (subst (λ (o : Owned). TellsTrees f told.list r.owned.surfaces o.surfaces) (sym did.own) told.tells);
+      }
+
+      -- What is marked is all that has to be.
+      pub run-least : MarksAtLeast d e d0 d2
+      run-least = at (is-out stacking)
         where
-          at : ((n : ℕ) × (stacking ≡ on.Out n)) ⊎ ((n : ℕ) → stacking ≡ on.Out n → ⊥) → AddsRun f told.list step.was step.is d0 d2
-          at (inl out) = adds-out out.0 out.1
-          at (inr never) = adds-stays never
+          at : ((n : ℕ) × (stacking ≡ on.Out n)) ⊎ ((n : ℕ) → stacking ≡ on.Out n → ⊥) → MarksAtLeast d e d0 d2
+          at (inl out) = adds-at-least A d e f told.list step.was step.is t.changes.marks d0 d2 (adds-out out.0 out.1)
+          at (inr never) = λ x y wide high clean.
+              let both = or_parts (has d0 x y) _ (sym (adds-stays never t.changes.marks.together_before t.changes.marks.together_after x y wide high) ∙ clean) in (
+                both.0,
+                false_from_ne_true (marks_at_least d e (pos x) (pos y))
+                    (λ marked. differ (sym both.1 ∙ moved-least c t.toplevel d e step f told.list run-told (pos x) (pos y) (t.changes.marks.least (pos x) (pos y)) marked)),
+              )
+
+      -- And no more than may be.
+      pub run-most : ((x y : ℕ) → x < d0.width → y < d0.height → in_output d.output.width d.output.height (pos x) (pos y) ≡ true) → MarksMost d e d0 d2
+      run-most inside = at (is-out stacking)
+        where
+          at : ((n : ℕ) × (stacking ≡ on.Out n)) ⊎ ((n : ℕ) → stacking ≡ on.Out n → ⊥) → MarksMost d e d0 d2
+          at (inl out) = adds-at-most A d e f told.list step.was step.is t.changes.marks d0 d2 inside (adds-out out.0 out.1) None
+          at (inr never) = λ x y wide high marked. by x y wide high marked (has d0 x y) refl
+            where
+              by : (x y : ℕ) → x < d0.width → y < d0.height → has d2 x y ≡ true → (b : Bool) → has d0 x y ≡ b → (has d0 x y || marks_at_most d e None (pos x) (pos y)) ≡ true
+              by x y wide high marked true was_so = or_left (has d0 x y) _ was_so
+              by x y wide high marked false clean =
+                  or_right (has d0 x y) _
+                  (t.changes.marks.most None (pos x) (pos y)
+                  (and_from _ _ (inside x y wide high)
+                  (moved-most (map (told_by f) step.was) (map (told_by f) step.is) told.list (pos x) (pos y)
+                  (sym (ap (λ b. b || marks_moved (map (told_by f) step.was) (map (told_by f) step.is) told.list (pos x) (pos y)) clean)
+                  ∙ (sym (adds-stays never t.changes.marks.together_before t.changes.marks.together_after x y wide high) ∙ marked)))))
 
   -- ---- whichever is found
 
@@ -284,7 +323,7 @@ module _ {A : Type 0} (between : MarksByTreesBetween) (c : ℕ) (others : ℕ �
       where
         at : Turns c (nums c) f told.list own_root found d e → MarksAtLeast d e d0 d2
         at (inl h) = untouched-least d e h.1 d0 d2 (none-marked h.0)
-        at (inr t) = adds-at-least A d e f told.list t.changes.step.was t.changes.step.is t.changes.marks d0 d2 (run-adds t was kept d0 d2 points)
+        at (inr t) = run-least t was kept d0 d2 points
 
     -- And no more than may be.
     pub marks-most : ((x y : ℕ) → x < d0.width → y < d0.height → in_output d.output.width d.output.height (pos x) (pos y) ≡ true) → MarksMost d e d0 d2
@@ -292,7 +331,7 @@ module _ {A : Type 0} (between : MarksByTreesBetween) (c : ℕ) (others : ℕ �
       where
         at : Turns c (nums c) f told.list own_root found d e → MarksMost d e d0 d2
         at (inl h) = untouched-most d e d0 d2 (none-marked h.0)
-        at (inr t) = adds-at-most A d e f told.list t.changes.step.was t.changes.step.is t.changes.marks d0 d2 inside (run-adds t was kept d0 d2 points) None
+        at (inr t) = run-most t was kept d0 d2 points inside
 
   -- What is told of windows for a moment: none, where none changes; else those that the toplevel has then.
   pub turned-so : (is_some applied ≡ false → is ≡ []) → (found ≡ None → is ≡ [])

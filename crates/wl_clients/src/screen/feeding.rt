@@ -144,9 +144,10 @@ impl<A: Allocator + Copy> Screen<A> {
     /// The answer is what it asks of the pointer, and whether it may have changed windows. Finding
     /// that takes the same time however many windows there are.
     ///
-    /// What it changes of a toplevel's windows is marked, tree by tree. If the windows of a tree
-    /// stand as before, that is the damage applied; else all of them, as they were and as they are.
-    /// If the client ends, its windows are marked, and no others.
+    /// What it changes of a toplevel's windows is marked. Of those that stay in their places that
+    /// is the damage applied, and of those that moved, came or went all points, before and after.
+    /// Where several trees changed, all windows of each are marked. If the client ends, its windows
+    /// are marked, and no others.
     ///
     /// A client that asks for a wl_pointer without a seat for it ends too. `grabbing` says by what
     /// a grab is allowed.
@@ -206,7 +207,7 @@ impl<A: Allocator + Copy> Screen<A> {
         };
         let root = root_of(resident, surface);
         let toplevel = find_toplevel(&resident.owned.shell, &self.stacked, client, root);
-        let surfaces = resident.owned.surfaces.states.len();
+        let surfaces = resident.owned.surfaces.len();
         let has_room = self.prepare(client, toplevel, surfaces).is_ok();
         let Some(outcome) = resident.serve(asked, has_room, placing, grabbing) else {
             return None;

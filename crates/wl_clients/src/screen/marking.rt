@@ -4,16 +4,18 @@ ghost use Rattle.std.specs.Prelude.{ℕ, ◌≡◌, ◌<◌, ◌||◌, Some, map
 ghost use Rattle.std.specs.List.{list_any};
 ghost use Rattle.wl_scene.specs.Marking.{AddsPoints, IsAsLarge};
 ghost use Rattle.wl_paint.specs.Damage.{has};
-ghost use Rattle.wl_scene.specs.Repaint.{AreTogether, marks_trees, window_has};
+ghost use Rattle.wl_scene.specs.Repaint.{AreTogether, window_has};
 ghost use Rattle.wl_clients.specs.Gone.{is_tree_at, tree_has};
 ghost use Rattle.wl_clients.specs.Screens.{AreToldIf, changes_in, has_own, is_own_at, run_kept, turned_if};
+ghost use Rattle.wl_clients.specs.Staying.{marks_moved};
 
 use crate::screen::screens::Screen;
+use crate::screen::staying::mark_moved;
 use spec_desktop::ClientNo;
 use std::alloc::Allocator;
 use wl_paint::Damage;
 use wl_requests::Stacking;
-use wl_scene::{Stacked, mark_trees, mark_windows};
+use wl_scene::{Stacked, mark_windows};
 use wl_surface::{Applied, Change, SurfaceNo};
 
 /// What was applied to surfaces, if something was.
@@ -126,19 +128,20 @@ impl<A: Allocator + Copy> Screen<A> {
         mark_windows(&mut self.damage, &self.spare.is);
     }
 
-    /// Marks what a message changed of a toplevel's windows, tree by tree (wayland.xml,
-    /// wl_surface.damage and wl_subsurface; xdg-shell.xml, xdg_popup). It goes by the windows
-    /// before and after, and by what the message applied to surfaces.
+    /// Marks what a message changed of a toplevel's windows (wayland.xml, wl_surface.damage and
+    /// wl_subsurface; xdg-shell.xml, xdg_popup). It goes by the windows before and after, and by
+    /// what the message applied to surfaces. Where windows of one tree moved, those are marked, and
+    /// what is damaged of the others; else it goes tree by tree.
     fn mark_changed(&mut self, applied: &Option<Applied<A>>)
         ensures points { AreTogether self.old.spare.was.items → AreTogether self.old.spare.is.items
-            → AddsPoints (marks_trees self.old.spare.was.items self.old.spare.is.items (changes_in applied.now)) self.old.damage self.new.damage }
+            → AddsPoints (marks_moved self.old.spare.was.items self.old.spare.is.items (changes_in applied.now)) self.old.damage self.new.damage }
         ensures sides { IsAsLarge self.old.damage self.new.damage }
         ensures scene { self.new.scene ≡ self.old.scene }
         ensures stacked { self.new.stacked ≡ self.old.stacked }
         ensures spare { self.new.spare ≡ self.old.spare }
     {
         let changes = changes_of(applied);
-        mark_trees(&mut self.damage, &self.spare.was, &self.spare.is, changes);
+        mark_moved(&mut self.damage, &self.spare.was, &self.spare.is, changes);
     }
 
     /// Marks all points of the windows that are kept of this toplevel.

@@ -65,7 +65,7 @@ pub(crate) fn root_of<A: Allocator + Copy>(resident: &Resident<A>, surface: Surf
     ensures root { root_in resident.now (Some surface) ≡ Some result }
     ensures none { links_in resident.now.owned.surfaces.family result ≡ None }
 {
-    resident.owned.surfaces.family.root(surface)
+    resident.owned.surfaces.root(surface)
 }
 
 /// The popup of a surface, if it has one.

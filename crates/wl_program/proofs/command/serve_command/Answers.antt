@@ -13,4 +13,5 @@ returns c =
     let with_rate = c.in_ok-serve.ensures.shape c.rate_option.ensures.own ∙ ap₂ with_rule with_turns c.rate_option.ensures.rule in
     let with_rest = c.in_ok-with_output.ensures ∙ ap with_output with_rate in
     let with_pointer = c.in_ok-arg-3.ensures.shape c.pointer_option.ensures.own ∙ ap₂ with_rule with_rest c.pointer_option.ensures.rule in
-    IfOk-weaker c.arg-5.result _ _ (λ command adds. adds.shape c.viewer_option.ensures.own ∙ ap₂ with_rule with_pointer c.viewer_option.ensures.rule) c.arg-5.ensures
+    let with_viewer = c.in_ok-arg-4.ensures.shape c.viewer_option.ensures.own ∙ ap₂ with_rule with_pointer c.viewer_option.ensures.rule in
+    IfOk-weaker c.arg-6.result _ _ (λ command adds. adds.shape c.record_option.ensures.own ∙ ap₂ with_rule with_viewer c.record_option.ensures.rule) c.arg-6.ensures

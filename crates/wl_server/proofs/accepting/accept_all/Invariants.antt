@@ -8,4 +8,4 @@ abbrev pub invariant-loop-before : goal.invariant-loop-before
 invariant-loop-before g l =
     Reports (AcceptsSome (ways g.H.Hub.accepts g.H.Hub.reads g.H.Hub.writes g.H.Hub.closes g.H.Hub.fault_count) l.before
     (l.fn.hub, record { accepted = l.fn.accepted; seats = l.fn.seats }) (l.hub, record { accepted = l.accepted; seats = l.seats }))
-    l.fn.session l.session (g.W.Write.contents l.fn.report) (g.W.Write.contents l.report)
+    l.fn.recorded.session l.recorded.session (g.W.Write.contents l.fn.report) (g.W.Write.contents l.report)

@@ -10,10 +10,10 @@ returns-in-Motion g c =
     let m = c.in-Motion in
     let x : FitsSigned w32 m.x = search rules in
     let y : FitsSigned w32 m.y = search rules in
-    does-motion c.args.asked c.args.time m.x m.y c.args.session.now c.motion.new.self m.is
+    does-motion c.args.asked c.args.time m.x m.y c.args.recorded.now.session c.motion.new.self.session m.is
     (motion-courses c.args.time m.x m.y _ _ (to_z-of_z w32 m.x x) (to_z-of_z w32 m.y y) _ _ c.motion.ensures.course)
 
 pub returns-in-Button : goal.returns-in-Button
 returns-in-Button g c =
     let b = c.in-Button in
-    does-button c.args.asked c.args.time b.code b.pressed c.args.session.now c.button.new.self b.is c.button.ensures.course
+    does-button c.args.asked c.args.time b.code b.pressed c.args.recorded.now.session c.button.new.self.session b.is c.button.ensures.course

@@ -13,12 +13,12 @@ returns-clause-taken g c =
     let from : Serving g.row.H.Denot g.row.H-Conn.Denot g.row.S.Denot = serving c.args.service.now.hub c.args.connections.now c.args.service.now.side c.args.service.now.waiting in
     let mid : Serving g.row.H.Denot g.row.H-Conn.Denot g.row.S.Denot = serving c.take_in.new.service.hub c.take_in.new.connections c.take_in.new.service.side c.take_in.new.service.waiting in
     let to : Serving g.row.H.Denot g.row.H-Conn.Denot g.row.S.Denot = serving c.give_out.new.service.hub c.give_out.new.connections c.give_out.new.service.side c.give_out.new.service.waiting in
-    let shown = c.in_ok-show_viewed.ensures in
+    let shown = c.in_ok-show_viewed.ensures.told in
     on_ok_weaker c.give_out.result
     (λ gives. (
       shown.0,
       served-viewed (TakesIn w files) w c.args.time shown.0 c.args.viewing.now.hub c.args.viewing.now.watcher c.show_viewed.new.place from mid to
-          c.args.service.now.session c.take_in.new.service.session c.show_viewed.new.session c.give_out.new.service.session _ _ _ _ _ _
+          c.args.service.now.recorded.session c.take_in.new.service.recorded.session c.show_viewed.new.recorded.session c.give_out.new.service.recorded.session _ _ _ _ _ _
           (takes-in-pass w files from mid) c.in_ok-take_in.ensures.told shown.1 gives,
     ))
     c.give_out.ensures.told

@@ -1,55 +1,17 @@
-use Rattle.std.proofs.Common.{◌<◌, ℕ, refl, ap, sym, subst, ◌∙◌, arith}
-use Rattle.std.proofs.lemmas.Result.{on_ok_weaker}
-use Rattle.std.specs.Io.KnownBytes.{Appends}
-use Rattle.std.proofs.KnownBytes.{Appends-nil}
 use Rattle.spec_desktop.specs.Act.{Tick}
 use Rattle.spec_desktop.specs.declared.answers.Done.TheVariants as gave
-use Rattle.wl_recording.specs.Text.{frame_line}
-use Rattle.wl_session.specs.Damage.{Damaged, count_points, has}
-use Rattle.wl_session.specs.Frame.{Image}
-use Rattle.wl_session.specs.Image.{image_of}
-use Rattle.wl_recording.specs.Images.{images_in}
-use Rattle.wl_server.specs.Watching.{RefreshesPlace, Shows}
-use Rattle.wl_server.proofs.Telling.{Tells-one, ok-kept, on-ok-kept, painted-none, painted-some}
+use Rattle.wl_server.proofs.Histories.{on-ok, recorded-on}
 use Rattle.wl_server.proofs.viewed.show_viewed.Goals as goal
 
-pub returns-then-count-eq0 : goal.returns-then-count-eq0
-returns-then-count-eq0 g c =
-    let damage = c.tick-frame.ensures.damage in
-    let next = c.tick-frame.follows.holds-at-none in
-    let counts = c.count-count.ensures ∙ ap (λ (m : Damaged). count_points m.width m.height (has m)) damage in
-    let told =
-    subst (λ (i : Image). RefreshesPlace c.args.session.now.damage i c.args.time c.refresh.ensures.0 c.args.place.now c.refresh.new.place) (sym next.1)
-    (subst (λ (m : Damaged). RefreshesPlace m c.tick-frame.result.pixels.now c.args.time c.refresh.ensures.0 c.args.place.now c.refresh.new.place) damage c.refresh.ensures.1) in (
-      c.refresh.ensures.0,
-      Tells-one (Shows c.args.time c.refresh.ensures.0 c.args.place.now c.refresh.new.place) (Tick c.args.time) gave.Tick _ _ _ _ _ _ (λ hs is. is) next.2 (λ d e es. (refl, told))
-          (λ d e agrees. (
-            subst (Appends (g.W.Write.contents c.args.report.now) (g.W.Write.contents c.args.report.now)) (sym (painted-none _ _ (sym counts ∙ c.if-count-eq0.true))) (Appends-nil _),
-            subst (Appends (images_in g.P.Write.contents c.args.ppm.now) (images_in g.P.Write.contents c.args.ppm.now)) (sym (painted-none _ _ (sym counts ∙ c.if-count-eq0.true))) (Appends-nil _),
-          )),
-    )
+pub invariant_of-recorded : goal.invariant_of-recorded
+invariant_of-recorded g c =
+    recorded-on g.R.Write.contents (Tick c.args.time) gave.Tick c.recorded.inside.session c.show_viewed_frame.new.session c.recorded.inside.recording c.settle.new.recording c.note_tick.new.recording
+    c.recorded.invariant c.settle.ensures c.note_tick.ensures c.show_viewed_frame.ensures.course
 
-pub returns : goal.returns
-returns g c =
-    let wrote = ok-kept c.write_frame.result c.map_err.result _ _ c.write_frame.ensures c.map_err.ensures.variant c.in_ok-map_err.was in
-    let damage = c.tick-frame.ensures.damage in
-    let next = c.tick-frame.follows.holds-at-none in
-    let counts = c.count-count.ensures ∙ ap (λ (m : Damaged). count_points m.width m.height (has m)) damage in
-    let some : 0 < c.count-count.result = omega arith in
-    let told =
-    subst (λ (i : Image). RefreshesPlace c.args.session.now.damage i c.args.time c.refresh.ensures.0 c.args.place.now c.refresh.new.place) (sym next.1)
-    (subst (λ (m : Damaged). RefreshesPlace m c.tick-frame.result.pixels.now c.args.time c.refresh.ensures.0 c.args.place.now c.refresh.new.place) damage c.refresh.ensures.1) in
-    on-ok-kept c.write_image.result c.map_err-2.result _
-    (on_ok_weaker c.write_image.result
-    (λ shown. (
-      c.refresh.ensures.0,
-      Tells-one (Shows c.args.time c.refresh.ensures.0 c.args.place.now c.refresh.new.place) (Tick c.args.time) gave.Tick _ _ _ _ _ _ (λ hs is. is) next.2 (λ d e es. (refl, told))
-          (λ d e agrees. (
-            subst (Appends (g.W.Write.contents c.args.report.now) (g.W.Write.contents c.write_frame.new.writer)) (sym (painted-some _ _ (subst (λ (n : ℕ). 0 < n) counts some)))
-                (subst (λ (n : ℕ). Appends (g.W.Write.contents c.args.report.now) (g.W.Write.contents c.write_frame.new.writer) (frame_line c.args.time n)) counts wrote),
-            subst (Appends (images_in g.P.Write.contents c.args.ppm.now) (images_in g.P.Write.contents c.write_image.new.ppm)) (sym (painted-some _ _ (subst (λ (n : ℕ). 0 < n) counts some)))
-                (subst (λ (i : Image). Appends (images_in g.P.Write.contents c.args.ppm.now) (images_in g.P.Write.contents c.write_image.new.ppm) (image_of i.width i.height i.pixels)) (sym next.1) shown),
-          )),
-    ))
-    c.write_image.ensures)
-    c.map_err-2.ensures.variant
+pub invariant_of-recorded-2 : goal.invariant_of-recorded-2
+invariant_of-recorded-2 g c =
+    recorded-on g.R.Write.contents (Tick c.args.time) gave.Tick c.recorded.inside.session c.show_viewed_frame.new.session c.recorded.inside.recording c.settle.new.recording c.note_tick.new.recording
+    c.recorded.invariant c.settle.ensures c.note_tick.ensures c.show_viewed_frame.ensures.course
+
+pub returns-clause-told : goal.returns-clause-told
+returns-clause-told g c = rw (c.flush.ensures.kept, ← c.recorded.view_is) (on-ok c.flush.result c.in_ok-show_viewed_frame.ensures.told)

@@ -5,11 +5,11 @@ use Rattle.wl_server.proofs.writing.write_client.Goals as goal
 
 pub returns-in_default : goal.returns-in_default
 returns-in_default g c =
-    write-nothing (ways g.H.Hub.accepts g.H.Hub.reads g.H.Hub.writes g.H.Hub.closes g.H.Hub.fault_count) c.args.client _ _ c.in_default.ensures
+    rw (← c.recorded.view_is) (write-nothing (ways g.H.Hub.accepts g.H.Hub.reads g.H.Hub.writes g.H.Hub.closes g.H.Hub.fault_count) c.args.client _ _ c.in_default.ensures)
 
 pub returns-then-delivered : goal.returns-then-delivered
 returns-then-delivered g c =
-    write-gone (ways g.H.Hub.accepts g.H.Hub.reads g.H.Hub.writes g.H.Hub.closes g.H.Hub.fault_count) c.args.client _ c.in-Some.bytes.now _ _ _ _ _ _ _ c.in-Some.ensures c.sent.ensures.course c.gone.ensures.course
+    rw (← c.recorded.view_is) (write-gone (ways g.H.Hub.accepts g.H.Hub.reads g.H.Hub.writes g.H.Hub.closes g.H.Hub.fault_count) c.args.client _ c.in-Some.bytes.now _ _ _ _ _ _ _ c.in-Some.ensures (rw (← c.recorded.view_is) at c.sent.ensures.course) c.gone.ensures.course
     (record {
       sent = c.deliver-delivered.result.bytes;
       is_gone = true;
@@ -18,11 +18,11 @@ returns-then-delivered g c =
       counts = c.deliver-delivered.ensures.fault c.if-delivered.true;
       kept = kept-gone c.args.seat.now c.deliver-delivered.new.conn;
       acts_are = refl;
-    })
+    }))
 
 pub returns-else-delivered : goal.returns-else-delivered
 returns-else-delivered g c =
-    write-some (ways g.H.Hub.accepts g.H.Hub.reads g.H.Hub.writes g.H.Hub.closes g.H.Hub.fault_count) c.args.client _ c.in-Some.bytes.now _ _ _ _ _ c.in-Some.ensures c.sent.ensures.course
+    rw (← c.recorded.view_is) (write-some (ways g.H.Hub.accepts g.H.Hub.reads g.H.Hub.writes g.H.Hub.closes g.H.Hub.fault_count) c.args.client _ c.in-Some.bytes.now _ _ _ _ _ c.in-Some.ensures (rw (← c.recorded.view_is) at c.sent.ensures.course)
     (record {
       sent = c.deliver-delivered.result.bytes;
       is_gone = false;
@@ -31,4 +31,4 @@ returns-else-delivered g c =
       counts = c.deliver-delivered.ensures.calm c.if-delivered.false;
       kept = kept-on c.args.seat.now c.deliver-delivered.new.conn;
       acts_are = refl;
-    })
+    }))

@@ -1,4 +1,4 @@
-use Rattle.std.proofs.Common.{None, ap, refl, subst, sym, ◌∙◌, ◌-◌}
+use Rattle.std.proofs.Common.{ap, refl, subst, sym, ◌∙◌, ◌-◌}
 use Rattle.std.proofs.lemmas.List.{length-set}
 use Rattle.wl_clients.specs.Agreement.{numbers_in}
 use Rattle.wl_clients.specs.View.{MarkedDesk, pile_of}

@@ -18,13 +18,12 @@ pub loop-callback-preserved : goal.loop-callback-preserved
 loop-callback-preserved g c = (
   λ lives r is only.
       let now = c.loop-callback.self in
-      let linked = record now.owned.surfaces { states = c.next_frame.new.self } in
-      let new : Kept _ = record now { client = c.finish.new.self; owned = record { surfaces = linked; shell = now.owned.shell } } in
+      let new : Kept _ = record now { client = c.finish.new.self; owned = record { surfaces = c.next_frame.new.self; shell = now.owned.shell } } in
       let so = c.loop-callback.invariant.0 lives r is only in
       let due = c.in-Some.ensures.due _ so.0.callbacks so.2.frames.waits in
       let told = c.finish.ensures.tells so.0.peer so.2.peer in
       let alive = lives-of c.finish.new.self.ended (sym c.has_ended.ensures ∙ c.if-has_ended.false) in
-      let next = next-answered c.args.time c.args.self.now now new r so.0 so.1 so.2 c.in-Some.callback due c.in-Some.ensures.places refl refl refl told.0 told.1 told.2 alive
+      let next = next-answered c.args.time c.args.self.now now new r so.0 so.1 so.2 c.in-Some.callback due c.in-Some.ensures.places c.in-Some.ensures.family refl refl told.0 told.1 told.2 alive
       (c.finish.ensures.table alive) in
       (next.0, next.1, next.2, next.3 ∙ so.3),
   c.in-Some.ensures.places ∙ c.loop-callback.invariant.1,
@@ -34,13 +33,12 @@ pub returns-then-has_ended : goal.returns-then-has_ended
 returns-then-has_ended g c = record {
   tells = λ lives r is only.
       let now = c.loop-callback.self in
-      let linked = record now.owned.surfaces { states = c.next_frame.new.self } in
-      let new : Kept _ = record now { client = c.finish.new.self; owned = record { surfaces = linked; shell = now.owned.shell } } in
+      let new : Kept _ = record now { client = c.finish.new.self; owned = record { surfaces = c.next_frame.new.self; shell = now.owned.shell } } in
       let so = c.loop-callback.invariant.0 lives r is only in
       let due = c.in-Some.ensures.due _ so.0.callbacks so.2.frames.waits in
       let told = c.finish.ensures.tells so.0.peer so.2.peer in
       let over = sym c.has_ended.ensures ∙ c.if-has_ended.true in
-      let last = last-over c.args.time c.args.self.now now new r so.0 so.1 so.2 c.in-Some.callback due c.in-Some.ensures.places refl refl refl told.0 told.1 told.2 over in
+      let last = last-over c.args.time c.args.self.now now new r so.0 so.1 so.2 c.in-Some.callback due c.in-Some.ensures.places c.in-Some.ensures.family refl refl told.0 told.1 told.2 over in
       (last.0, last.1, last.2, λ alive. absurd (gone c.finish.new.self.ended over alive));
   places = c.in-Some.ensures.places ∙ c.loop-callback.invariant.1;
 }

@@ -65,7 +65,7 @@ returns-clause-applies g c = λ client r on names object kept bounds at only com
     let all = committed_in object r.owned.surfaces in
     let then = with_surfaces all r in
     let after = tree_committed object r in
-    let freed = c.in-Ok.told.applied.freed.items in
+    let freed = c.in-Ok.told.freed.items in
     let shown = map buffer_of c.in-Ok.told.shown.items in
     let called = commit-called names.surfaces slots c.commit.new.self.states tied c.commit.new.self.family r owned.surfaces object number named freed shown
     c.in-Ok.ensures.among c.in-Ok.ensures.ok c.in-Ok.ensures.waits c.in-Ok.ensures.freed c.in-Ok.ensures.shown in

@@ -18,8 +18,9 @@ returns-clause-does g c = λ object named r is.
     let names = names_of v.client.objects in
     let request = Attach (buffer_named r c.args.buffer) c.args.x c.args.y in
     let changes = rw (c.attached-attached.ensures r is.peer) at (simp (to_z-of_z w32 c.args.x c.ranges.x, to_z-of_z w32 c.args.y c.ranges.y) at c.attach.ensures.changes) in
-    let owned = owned-asked names v.owned.surfaces.states v.owned.surfaces.family (kept_of v.owned.shell) r is.owns object c.args.surface request c.attach.new.self named refl refl
-    (λ asked. refl) changes in
+    let owned = rw (← c.attach.ensures.family) at
+    (owned-asked names v.owned.surfaces.states v.owned.surfaces.family (kept_of v.owned.shell) r is.owns object c.args.surface request c.attach.new.self.states named refl refl
+    (λ asked. refl) changes) in
     let had = had-by names.surfaces v.owned.surfaces.states v.owned.surfaces.family r.owned.surfaces object c.args.surface c.buffers-had.result is.owns.surfaces named c.buffers-had.ensures in
     let then = asked_of object request r in
     let peer = c.let_go_of.ensures.stores then names.surfaces is.peer owned.surfaces (surface_at object r.owned.surfaces) had in
@@ -31,6 +32,6 @@ returns-clause-does g c = λ object named r is.
     named refl refl) in (
       after.peer,
       inr refl,
-      let-go-so v (record v { owned = record v.owned { surfaces = record v.owned.surfaces { states = c.attach.new.self } } }) c.let_go_of.new.self after refl owned framed is.subsurfaces
+      let-go-so v (record v { owned = record v.owned { surfaces = c.attach.new.self } }) c.let_go_of.new.self after refl owned framed is.subsurfaces
           c.let_go_of.ensures.only c.let_go_of.ensures.owned c.let_go_of.ensures.subsurfaces peer,
     )

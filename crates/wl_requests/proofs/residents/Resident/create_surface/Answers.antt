@@ -39,18 +39,18 @@ returns-in-Ok-clause-answers g c = λ free client r on is only.
       made.1,
       record {
         peer = made.2;
-        owns = λ alive. owned-created (names_of v.client.objects) v.owned.surfaces.states v.owned.surfaces.family (kept_of v.owned.shell) (with_peer (counted r.peer) r) is.owns id c.args.version
-            c.in-Ok.surface c.create.new.self
+        owns = λ alive. rw c.create.ensures.family (owned-created (names_of v.client.objects) v.owned.surfaces.states v.owned.surfaces.family (kept_of v.owned.shell) (with_peer (counted r.peer) r) is.owns id c.args.version
+            c.in-Ok.surface c.create.new.self.states
             (names_of c.add.new.self.objects)
             (targets-free WlSurface v.client.objects id free) c.in-Ok.ensures.ok c.in-Ok.ensures.count
-            (names (holds-counted v.client c.count.new.self c.add.new.self.objects id _ c.count.ensures.only (c.add.ensures.table alive)));
+            (names (holds-counted v.client c.count.new.self c.add.new.self.objects id _ c.count.ensures.only (c.add.ensures.table alive))));
         frames = λ alive.
             let now = names (holds-counted v.client c.count.new.self c.add.new.self.objects id _ c.count.ensures.only (c.add.ensures.table alive)) in
             let after = changed_by (CreateSurface id c.args.version) (with_peer (counted r.peer) r) in
             subst (λ (ws : List Waiting). IsFramed ws c.add.new.self.objects after) (sym c.create.ensures.frames)
             (framed-made v.owned.surfaces.states.frames v.client.objects c.add.new.self.objects r after refl (one-more r.peer.requests) is.frames v.owned.surfaces.states v.owned.surfaces.family
             is.owns.surfaces id c.in-Ok.surface
-            c.create.new.self c.in-Ok.ensures.ok
+            c.create.new.self.states c.in-Ok.ensures.ok
             (targets-free WlSurface v.client.objects id free) (ap (λ (n : Names). n.surfaces) now) refl);
         subsurfaces = λ alive.
             let now = names (holds-counted v.client c.count.new.self c.add.new.self.objects id _ c.count.ensures.only (c.add.ensures.table alive)) in

@@ -5,7 +5,7 @@ use Rattle.wl_requests.proofs.residents.Resident.damage_buffer.Goals as goal
 
 pub returns-in-Ok-clause-does : goal.returns-in-Ok-clause-does
 returns-in-Ok-clause-does g c = λ object named r is.
-    let done = asked-so _ _ r object c.args.surface (DamageBuffer c.args.rect) is named refl refl (λ v. refl) (λ g. refl) refl c.damage_buffer.ensures.frames c.in-Ok.ensures.ok refl refl refl refl in
+    let done = asked-so _ _ r object c.args.surface (DamageBuffer c.args.rect) is named refl refl (λ v. refl) (λ g. refl) refl c.damage_buffer.ensures.frames c.in-Ok.ensures.ok c.damage_buffer.ensures.family refl refl refl in
     (r.peer, inr (sym done.0), done.1)
 
 pub returns-in-Err-clause-does : goal.returns-in-Err-clause-does

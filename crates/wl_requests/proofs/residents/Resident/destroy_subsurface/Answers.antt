@@ -149,7 +149,7 @@ returns-clause-decides g c = λ child of here client r d is orderly.
     let order = counted-ordered r orderly in
     let then = with_surfaces (unlinked number r.owned.surfaces) (record one_more { subsurfaces = filter (λ (s : Subsurface). not (s.id == object)) r.subsurfaces }) in
     let after = after_all one_more then in
-    let freed = c.in-Ok.told.applied.freed.items in
+    let freed = c.in-Ok.told.freed.items in
     let shown = map buffer_of c.in-Ok.told.shown.items in
     let called = part-called names.surfaces slots c.remove_subsurface.new.self.states tied c.remove_subsurface.new.self.family one_more is.owns.surfaces its.link below its.here its.lives its.named
     freed shown c.in-Ok.ensures.among c.in-Ok.ensures.ok c.in-Ok.ensures.waits c.in-Ok.ensures.freed c.in-Ok.ensures.shown in
@@ -201,7 +201,7 @@ returns-clause-answers g c = λ here client r d is orderly.
 pub returns-clause-touched : goal.returns-clause-touched
 returns-clause-touched g c = λ child of.
     let same : c.in-Some.child ≡ child = of.1 c.in-Some.child c.in-Some.ensures.0 in
-    subst (λ (n : ℕ). IsTouched (Parts n) c.args.self.now.owned.surfaces c.tell_releases.new.self.owned.surfaces (Some c.in-Ok.told.applied)) same (
+    subst (λ (n : ℕ). IsTouched (Parts n) c.args.self.now.owned.surfaces c.tell_releases.new.self.owned.surfaces (Some c.in-Ok.told)) same (
       subst (λ (o : Lent _). IsMade (Parts c.in-Some.child) c.args.self.now.owned.surfaces o.surfaces) (sym (c.tell_releases.ensures.owned ∙ c.let_go_of_told.ensures.owned)) c.in-Ok.ensures.ok,
       λ all number link is stands. c.in-Ok.ensures.changes all number link is stands,
     )

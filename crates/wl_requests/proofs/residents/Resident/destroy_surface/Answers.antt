@@ -81,7 +81,7 @@ returns-clause-does g c = λ named bare client r on is only.
     let had = had-by names.surfaces slots tied r.owned.surfaces id number c.buffers.result is.owns.surfaces named c.buffers.ensures ∙ ap had_at there.1 in
     let element = slice_index_or c.buffers.result 0 c.index-buffers-0.result in
     let first : option_map buffer_of element ≡ extra = ap (option_map buffer_of) (sym c.index-buffers-0.is) ∙ pending-had c.buffers.result c.index-buffers-0.result there.0 c.index-buffers-0.is had in
-    let freed = c.in-Ok.told.applied.freed.items in
+    let freed = c.in-Ok.told.freed.items in
     let shown = map buffer_of c.in-Ok.told.shown.items in
     let left = fold ended_in r.owned.surfaces (links_with id r.owned.surfaces) in
     let then : Resident = with_surfaces (destroyed_in id r.owned.surfaces) (record r { subsurfaces = map (without_child id) r.subsurfaces }) in
@@ -108,7 +108,7 @@ returns-clause-does g c = λ named bare client r on is only.
     let calls = c.deref-2.result.now in
     let waits = is.frames.waits in
     let ids : calls ≡ map (λ (x : Callback). x.id) cs =
-    c.deref-2.ensures.value ∙ calls-here names.surfaces slots tied r.owned.surfaces is.owns.surfaces number c.in-Ok.told.applied.callbacks.items r.callbacks c.in-Ok.ensures.callbacks waits
+    c.deref-2.ensures.value ∙ calls-here names.surfaces slots tied r.owned.surfaces is.owns.surfaces number c.in-Ok.told.callbacks.items r.callbacks c.in-Ok.ensures.callbacks waits
     ∙ ap (λ ns. map (λ (x : Callback). x.id) (filter (is_in ns) r.callbacks)) asked in
     let made = surface_ended id r in
     let told = c.remove_with.ensures.removes after.peer peer_then in

@@ -43,11 +43,11 @@ returns-in-Ok-clause-answers g c = λ object named free client r on is only.
         numbers = λ alive. keeps-names v.client.objects c.add.new.self.objects (table alive);
         frames = λ alive. framed-frame v.client.objects c.add.new.self.objects r (changed_for client ask then
             (unpointed on)) v.owned.surfaces.states v.owned.surfaces.family is.owns.surfaces is.frames object number
-            named c.frame.new.self.frames n
+            named c.frame.new.self.states.frames n
             callback refl refl c.in-Ok.ensures.waits refl (table alive) refl;
         subsurfaces = λ alive. subsurfaces-names v.subsurfaces r.subsurfaces v.client.objects c.add.new.self.objects is.subsurfaces (table alive);
-        owns = λ alive. rw (table alive)
-            (owned-asked names v.owned.surfaces.states v.owned.surfaces.family (kept_of v.owned.shell) then is.owns object number (Frame n) c.frame.new.self named refl refl (λ asked. refl)
+        owns = λ alive. rw (table alive, c.frame.ensures.family)
+            (owned-asked names v.owned.surfaces.states v.owned.surfaces.family (kept_of v.owned.shell) then is.owns object number (Frame n) c.frame.new.self.states named refl refl (λ asked. refl)
             (c.in-Ok.ensures.ok n));
       },
     ))

@@ -81,9 +81,9 @@ returns-else-number-clause-answers g c = λ named free fit client r d is ordered
     let made = c.add.ensures.makes (counted r.peer) (c.count.ensures.counts r.peer is.peer) in
     so-judged (popup_made r x version asked.id asked.parent values) demand client r d v _ judged
     (popup-comes v _ client r d asked.id version number asked.parent values k x h is ordered one fits.0 free made.0 made.1 made.2
-    (popup-role names slots tied kept r is.owns x.surface number c.role.result c.give_role-given.result c.give_role-given.new.self one.surface fits.1 c.role.ensures c.give_role-given.ensures.refused
+    (popup-role names slots tied kept r is.owns x.surface number c.role.result c.give_role-given.result c.give_role-given.new.self.states one.surface fits.1 c.role.ensures c.give_role-given.ensures.refused
     c.give_role-given.ensures.ok)
-    keeps refl c.give_role-given.ensures.frames refl
+    keeps c.give_role-given.ensures.family c.give_role-given.ensures.frames refl
     (λ alive. roles-named.made v.client.objects c.add.new.self.objects asked.id entry free refl
     (holds-counted v.client c.count.new.self c.add.new.self.objects asked.id (Some entry) c.count.ensures.only (c.add.ensures.table alive)))))
 

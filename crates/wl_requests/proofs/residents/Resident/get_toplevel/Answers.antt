@@ -54,7 +54,7 @@ returns-in-Ok-clause-answers g c = λ named free client r on is only.
             (holds-counted v.client c.count.new.self c.add.new.self.objects id (Some (record { interface = XdgToplevel; version = version; target = number })) c.count.ensures.only
             (c.add.ensures.table alive)) in
             let then = with_peer (counted r.peer) r in
-            subst (λ o. IsFramed c.give_role-given.new.self.frames c.add.new.self.objects (making XdgToplevel id version (toplevel_given id x.id o then))) (sym one.at_id)
+            subst (λ o. IsFramed c.give_role-given.new.self.states.frames c.add.new.self.objects (making XdgToplevel id version (toplevel_given id x.id o then))) (sym one.at_id)
             (subst (λ (ws : List Waiting). IsFramed ws c.add.new.self.objects (making XdgToplevel id version (toplevel_given id x.id (Some x) then))) (sym c.give_role-given.ensures.frames)
             (framed-role v.owned.surfaces.states.frames v.client.objects c.add.new.self.objects r (making XdgToplevel id version (toplevel_given id x.id (Some x) then)) refl
             (one-more r.peer.requests)
@@ -66,17 +66,17 @@ returns-in-Ok-clause-answers g c = λ named free client r on is only.
             (c.add.ensures.table alive)) in
             subst (λ o. AreOfSurfaces v.subsurfaces (targets_in WlSurface c.add.new.self.objects) (toplevel_given id x.id o (with_peer (counted r.peer) r)).subsurfaces) (sym one.at_id)
             (subsurfaces-named v.subsurfaces r.subsurfaces v.client.objects c.add.new.self.objects is.subsurfaces (ap (λ (n : Names). n.surfaces) now));
-        owns = λ alive. owned-toplevel-made names v.owned.surfaces.states v.owned.surfaces.family kept (with_peer (counted r.peer) r) is.owns number k x h one id version c.give_role-given.new.self
+        owns = λ alive. rw c.give_role-given.ensures.family (owned-toplevel-made names v.owned.surfaces.states v.owned.surfaces.family kept (with_peer (counted r.peer) r) is.owns number k x h one id version c.give_role-given.new.self.states
             (kept_of c.get_toplevel.new.self)
             (names_of c.add.new.self.objects) bare.0
             (roles-named.free v.client.objects id free)
-            (role-given names v.owned.surfaces.states v.owned.surfaces.family kept r is.owns x.surface number c.role.result c.give_role-given.result c.give_role-given.new.self one.surface bare.1
+            (role-given names v.owned.surfaces.states v.owned.surfaces.family kept r is.owns x.surface number c.role.result c.give_role-given.result c.give_role-given.new.self.states one.surface bare.1
             c.role.ensures
             c.give_role-given.ensures.refused c.give_role-given.ensures.ok)
             c.in-Ok.ensures.ok
             (names-toplevel-made v.client.objects c.add.new.self.objects id (record { interface = XdgToplevel; version = version; target = number }) free refl
             (holds-counted v.client c.count.new.self c.add.new.self.objects id (Some (record { interface = XdgToplevel; version = version; target = number })) c.count.ensures.only
-            (c.add.ensures.table alive)));
+            (c.add.ensures.table alive))));
       },
     )))
 

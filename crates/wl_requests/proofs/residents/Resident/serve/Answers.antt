@@ -52,7 +52,7 @@ pub returns-in-Own-clause-takes : goal.returns-in-Own-clause-takes
 returns-in-Own-clause-takes g c = rw c.of-in-Own.ensures (λ client r on is only placed given.
     let v = c.args.self.now in
     let asked : IsAsked v.client (Own c.in-Own.size c.in-Own.judged) = rw c.in-Own.is at c.requires in
-    let served = c.serve_own-served.ensures.serves (λ number. is_used number r.owned.surfaces) (used-of v r is) r.peer is.peer in
+    let served = (rw c.states.ensures at c.serve_own-served.ensures.serves) (λ number. is_used number r.owned.surfaces) (used-of v r is) r.peer is.peer in
     own-served v _ r served.0 is (passes-own v.client c.in-Own.size c.in-Own.judged asked) refl refl c.serve_own-served.ensures.table served.1 served.2 client on only)
 
 pub returns-in-Refused-clause-lives : goal.returns-in-Refused-clause-lives

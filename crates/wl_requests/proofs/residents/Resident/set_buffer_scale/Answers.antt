@@ -8,7 +8,7 @@ use Rattle.wl_requests.proofs.residents.Resident.set_buffer_scale.Goals as goal
 pub returns-in-Ok-clause-does : goal.returns-in-Ok-clause-does
 returns-in-Ok-clause-does g c = λ object valid named r is.
     let done = asked-so _ _ r object c.args.surface (SetBufferScale (unsigned_abs c.args.scale)) is named refl refl (λ v. refl) (λ g. refl) refl c.set_scale.ensures.frames
-    (simp (to_z-of_z w32 c.args.scale c.ranges.scale) at c.in-Ok.ensures.ok) refl refl refl refl in
+    (simp (to_z-of_z w32 c.args.scale c.ranges.scale) at c.in-Ok.ensures.ok) c.set_scale.ensures.family refl refl refl in
     (r.peer, inr (sym done.0), done.1)
 
 pub returns-in-Err-clause-does : goal.returns-in-Err-clause-does

@@ -47,9 +47,9 @@ returns-in-Ok-clause-answers g c = λ id named client r d is orderly.
     let number = c.args.surface in
     let slots = v.owned.surfaces.states in
     let family = v.owned.surfaces.family in
-    let new = c.give_role.new.self in
+    let new = c.give_role.new.self.states in
     let now = c.count.new.self.objects in
-    let kept : Kept _ = record v { client = c.count.new.self; owned = record v.owned { surfaces = record v.owned.surfaces { states = new } } } in
+    let kept : Kept _ = record v { client = c.count.new.self; owned = record v.owned { surfaces = c.give_role.new.self } } in
     let then = with_peer (counted r.peer) r in
     let demand = MakeCursor id in
     let after = changed_for client demand then (unpointed d) in
@@ -70,7 +70,7 @@ returns-in-Ok-clause-answers g c = λ id named client r d is orderly.
             (framed-role slots.frames v.client.objects now r after refl (one-more r.peer.requests) is.frames slots family is.owns.surfaces id number AsCursor named
             (ap (λ (n : Names). n.surfaces) table) refl);
         subsurfaces = λ alive. subsurfaces-names v.subsurfaces r.subsurfaces v.client.objects now is.subsurfaces table;
-        owns = λ alive. subst (λ (n : Names). IsOwned n new family (kept_of v.owned.shell) after.owned) (sym table)
-            (owned-cursor names slots family (kept_of v.owned.shell) then is.owns id number new named c.in-Ok.ensures.ok);
+        owns = λ alive. rw c.give_role.ensures.family (subst (λ (n : Names). IsOwned n new family (kept_of v.owned.shell) after.owned) (sym table)
+            (owned-cursor names slots family (kept_of v.owned.shell) then is.owns id number new named c.in-Ok.ensures.ok));
       },
     ))

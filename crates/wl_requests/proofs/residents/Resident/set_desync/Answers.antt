@@ -103,7 +103,7 @@ returns-clause-decides g c = λ child of here client r d is orderly.
     let order = counted-ordered r orderly in
     let then = with_surfaces (desynchronised_in number r.owned.surfaces) one_more in
     let after = mode_set number false one_more in
-    let freed = c.in-Ok.told.applied.freed.items in
+    let freed = c.in-Ok.told.freed.items in
     let shown = map buffer_of c.in-Ok.told.shown.items in
     let called = desync-called names.surfaces slots c.set_desync.new.self.states tied c.set_desync.new.self.family one_more is.owns.surfaces its.link below its.here its.lives its.named
     freed shown c.in-Ok.ensures.among c.in-Ok.ensures.ok c.in-Ok.ensures.waits c.in-Ok.ensures.freed c.in-Ok.ensures.shown in
@@ -147,7 +147,7 @@ pub returns-clause-touched : goal.returns-clause-touched
 returns-clause-touched g c = λ child of.
     let here = subst (λ (o : Option ℕ). IsChildOf c.args.self.now c.args.object o) c.in_ok-child.was c.child_of.ensures in
     let same : c.in_ok-child.child ≡ child = of.1 c.in_ok-child.child here.0 in
-    subst (λ (n : ℕ). IsTouched (Releases n) c.args.self.now.owned.surfaces c.tell_releases.new.self.owned.surfaces (Some c.in-Ok.told.applied)) same (
+    subst (λ (n : ℕ). IsTouched (Releases n) c.args.self.now.owned.surfaces c.tell_releases.new.self.owned.surfaces (Some c.in-Ok.told)) same (
       subst (λ (o : Lent _). IsMade (Releases c.in_ok-child.child) c.args.self.now.owned.surfaces o.surfaces) (sym (c.tell_releases.ensures.owned ∙ c.let_go_of_told.ensures.owned)) c.in-Ok.ensures.ok,
       λ all number link is stands. c.in-Ok.ensures.changes all number link is stands,
     )

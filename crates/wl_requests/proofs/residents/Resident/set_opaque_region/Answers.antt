@@ -7,7 +7,7 @@ pub returns-in-Ok-clause-does : goal.returns-in-Ok-clause-does
 returns-in-Ok-clause-does g c = λ object named r is.
     let copied = copied-named _ r.peer c.args.region _ c.region-region.ensures is.peer in
     let done = asked-so _ _ r object c.args.surface (SetOpaqueRegion (r.peer.regions c.args.region)) is named refl refl (λ v. refl) (λ g. refl) refl c.set_opaque.ensures.frames
-    (c.in-Ok.ensures.ok (r.peer.regions c.args.region) copied) refl refl refl refl in
+    (c.in-Ok.ensures.ok (r.peer.regions c.args.region) copied) c.set_opaque.ensures.family refl refl refl in
     (r.peer, inr (sym done.0), done.1)
 
 pub returns-in-Err-clause-does : goal.returns-in-Err-clause-does

@@ -6,9 +6,9 @@ pub returns-clause-freed : goal.returns-clause-freed
 returns-clause-freed g c = λ all stand b is any. rw c.deref-2.ensures.value at c.add_freed.ensures.counted all stand b is any
 
 pub returns-clause-told : goal.returns-clause-told
-returns-clause-told g c = λ all stand once.
+returns-clause-told g c = rw (← c.self.view_is) (λ all stand once.
     subst (λ (ns : List ℕ). AreToldAfter c.args.room.changes.items ns all c.apply_each.new.changes.items) c.deref.ensures.value
-    (c.apply_each.ensures.told all stand (subst AreOnce (sym c.deref.ensures.value) once))
+    (c.apply_each.ensures.told all stand (subst AreOnce (sym c.deref.ensures.value) once)))
 
 pub returns-clause-among : goal.returns-clause-among
 returns-clause-among g c = λ number e. rw c.deref-2.ensures.value at c.add_freed.ensures.among number e

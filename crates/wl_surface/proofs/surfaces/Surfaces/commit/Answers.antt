@@ -36,12 +36,12 @@ returns-then-behaves_synchronised-clause-waits g c = on-ok c.hold.result c.hold.
 pub returns-then-behaves_synchronised-clause-changes : goal.returns-then-behaves_synchronised-clause-changes
 returns-then-behaves_synchronised-clause-changes g c = if-ok c.hold.result c.hold.ensures.changes (λ told are all stand.
     let v = c.args.self.now in
-    told-held v.states v.family all c.args.surface c.behaves_synchronised.result c.behaves_synchronised.ensures stand told.applied.changes.items c.if-behaves_synchronised.true are)
+    told-held v.states v.family all c.args.surface c.behaves_synchronised.result c.behaves_synchronised.ensures stand told.changes.items c.if-behaves_synchronised.true are)
 
 pub returns-then-behaves_synchronised-clause-freed : goal.returns-then-behaves_synchronised-clause-freed
 returns-then-behaves_synchronised-clause-freed g c = if-ok c.hold.result c.hold.ensures.freed (λ told freed all stand.
     let v = c.args.self.now in
-    subst (λ (a : Surfaces). AreFreed told.applied.freed.items (numbered all) (numbered a))
+    subst (λ (a : Surfaces). AreFreed told.freed.items (numbered all) (numbered a))
     (sym (commit-held v.states v.family all c.args.surface c.behaves_synchronised.result c.behaves_synchronised.ensures stand c.if-behaves_synchronised.true)) (freed all stand))
 
 pub returns-clause-ok : goal.returns-clause-ok
@@ -59,12 +59,12 @@ returns-clause-waits g c = on-ok c.commit_now.result c.commit_now.ensures.waits 
 pub returns-clause-changes : goal.returns-clause-changes
 returns-clause-changes g c = if-ok c.commit_now.result c.commit_now.ensures.changes (λ told are all stand.
     let v = c.args.self.now in
-    told-now v.states v.family all c.args.surface c.behaves_synchronised.result c.behaves_synchronised.ensures stand told.applied.changes.items c.if-behaves_synchronised.false (are all stand))
+    told-now v.states v.family all c.args.surface c.behaves_synchronised.result c.behaves_synchronised.ensures stand told.changes.items c.if-behaves_synchronised.false (are all stand))
 
 pub returns-clause-freed : goal.returns-clause-freed
 returns-clause-freed g c = if-ok c.commit_now.result c.commit_now.ensures.freed (λ told freed all stand.
     let v = c.args.self.now in
-    subst (λ (a : Surfaces). AreFreed told.applied.freed.items (numbered all) (numbered a))
+    subst (λ (a : Surfaces). AreFreed told.freed.items (numbered all) (numbered a))
     (sym (commit-now v.states v.family all c.args.surface c.behaves_synchronised.result c.behaves_synchronised.ensures stand c.if-behaves_synchronised.false)) (freed all stand))
 
 pub returns-then-behaves_synchronised-clause-shown : goal.returns-then-behaves_synchronised-clause-shown

@@ -1,0 +1,9 @@
+use Rattle.spec_desktop.specs.Act.{Connect}
+use Rattle.spec_desktop.specs.declared.answers.Done.TheVariants as gave
+use Rattle.wl_server.proofs.Histories.{recorded-on}
+use Rattle.wl_server.proofs.recorded.Recorded.connect.Goals as goal
+
+pub invariant_of-self : goal.invariant_of-self
+invariant_of-self g c =
+    recorded-on g.R.Write.contents (Connect) (gave.Connect c.connect-connected.result) c.self.inside.session c.connect-connected.new.self c.self.inside.recording c.settle.new.recording c.note_connect.new.recording
+    c.self.invariant c.settle.ensures c.note_connect.ensures c.connect-connected.ensures.course

@@ -1,0 +1,10 @@
+use Rattle.std.proofs.Common.{refl}
+use Rattle.spec_desktop.specs.Act.{Send}
+use Rattle.spec_desktop.specs.declared.answers.Done.TheVariants as gave
+use Rattle.wl_server.proofs.Histories.{recorded-quiet}
+use Rattle.wl_server.proofs.recorded.Recorded.sent.Goals as goal
+
+pub invariant_of-self : goal.invariant_of-self
+invariant_of-self g c =
+    recorded-quiet g.R.Write.contents (Send c.args.client c.args.count) (gave.Sent c.sent.result) c.self.inside.session c.sent.new.self c.self.inside.recording c.settle.new.recording
+    c.self.invariant c.settle.ensures (λ notes. refl) c.sent.ensures.course
