@@ -38,7 +38,8 @@ CLIENTS = {
     "terminal that scrolls": (LARGE, ["foot", "sh", "-c", "while :; do seq 1000; done"]),
     "terminal that blinks": (LARGE, ["foot", "-o", "cursor.blink=yes", "sleep", "1000"]),
     "weston-simple-shm": (LARGE, "weston-simple-shm"),
-    "40 by 30 points of 1080p": (LARGE, "frames_client 1920 1080 1000000 40 30"),  # bench/peers has it
+    "all of 1080p": (LARGE, "frames_client 1920 1080 1000000"),  # bench/peers has it
+    "40 by 30 points of 1080p": (LARGE, "frames_client 1920 1080 1000000 40 30"),
 }
 
 

@@ -159,9 +159,8 @@ and pasted into an entry of each by ctrl+v. In foot the word was marked by a dou
 """
 TWINS = """## Memory by links and ranges, and copied
 
-A client's memory is shown by links to it, of which the server reads the ranges that changed. Is that the same as where each committed buffer is copied whole
-(`--whole`)? Each client that shows something was a client of two displays at once, one of either kind, by tools/tests/twins.py: both get the same requests. About once
-a second it waits until both have shown all that it asked, and their pictures are compared, to the byte.
+Are links and ranges the same as copies of each committed buffer (`--whole`)? Each client that shows something was a client of two displays at once, one of either kind
+(tools/tests/twins.py). About once a second, once both have shown all that it asked, their pictures are compared to the byte.
 """
 
 
