@@ -87,7 +87,8 @@ class Release(unittest.TestCase):
         made = CLEAN.with_name("debian.new")
         shutil.rmtree(made, ignore_errors=True)
         made.parent.mkdir(exist_ok=True)
-        words = ["debootstrap", "--variant=minbase", "--include=python3", SUITE, made]
+        # What it mounts and starts goes with it, also where time runs out.
+        words = ["unshare", "--mount", "--pid", "--fork", "--kill-child", "--mount-proc", "debootstrap", "--variant=minbase", "--include=python3", SUITE, made]
         try:
             done = subprocess.run(words, capture_output=True, text=True, check=False, timeout=LONG)
             fault = (done.stdout + done.stderr).strip().splitlines()[-1] if done.returncode else ""
