@@ -14,11 +14,7 @@ LINE = 100  # columns at most
 DOCS = 28_000  # words of docs/ at most
 HEAVY = re.compile(r"\b(that which|so that of|as far as|such that)\b", re.IGNORECASE)
 # Crates, and files of crates, whose comments aren't rewritten yet, besides the crates for tests and for measuring.
-UNWRITTEN_SOURCES = {
-    "wl_recording",
-    "wl_store",
-    "wl_surface",
-}
+UNWRITTEN_SOURCES = set()
 # Pages whose tables are looked up and not read: their words don't count.
 LOOKED_UP = {"docs/CLAUSES.md", "docs/DEFINITIONS.md", "docs/PROTOCOL.md"}
 COMMENT = re.compile(r"\s*//[/!]?(?: (.*))?$")

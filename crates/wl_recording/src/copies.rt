@@ -1,4 +1,4 @@
-//! Copies of what a recording puts into stores.
+//! Copies of the bytes that a recording puts into stores.
 
 ghost use Rattle.std.specs.Prelude.{◌≡◌, ◌+◌, ◌<◌, ◌≤◌, ◌^◌, ℕ, IfOk, IfSome, length, vec_len};
 ghost use Rattle.wl_recording.specs.Recording.{Differs};
@@ -8,7 +8,7 @@ use crate::place::Place;
 use std::alloc::{AllocError, Allocator};
 use std::ops::Range;
 
-/// What was put into a store of a client. Bytes that never were are 0.
+/// The bytes that were put into a client's store. A byte that never was put is 0.
 #[derive(Drop)]
 struct Held<A: Allocator> {
     client: u32,
@@ -16,16 +16,16 @@ struct Held<A: Allocator> {
     bytes: Vec<u8, A>,
 }
 
-/// What a recording put into the stores of clients, who are named by their numbers in the session.
+/// The bytes that a recording put into clients' stores. Clients go by their numbers in the session.
 #[derive(Drop)]
 pub struct Copies<A: Allocator> {
     held: Vec<Held<A>, A>,
-    /// There was no memory for a copy: none is kept any more.
+    /// Memory ran out for a copy: no copies are kept any more.
     lacks_memory: bool,
 }
 
 impl<A: Allocator + Copy> Copies<A> {
-    /// Nothing was put anywhere.
+    /// No copies, before anything is put into a store.
     pub fn new(alloc: A) -> Copies<A> {
         Copies {
             held: Vec::new(alloc),
@@ -33,7 +33,7 @@ impl<A: Allocator + Copy> Copies<A> {
         }
     }
 
-    /// The least number, above this one, of a store of this client that something was put into.
+    /// The least number above this one of a store of this client that bytes were put into.
     pub fn next_store(&self, client: u32, number: u32) -> Option<u32>
         ensures { IfSome result (λ next. number < next) }
     {
@@ -46,8 +46,8 @@ impl<A: Allocator + Copy> Copies<A> {
         least
     }
 
-    /// Puts bytes into a store. Answers which of them differ from what stood there, from the first that does to the last; all of them where
-    /// there is no memory for a copy.
+    /// Puts bytes into a store. The answer is the range of those that differ from what stood there,
+    /// from the first to the last. Without memory for a copy it is all of them.
     pub fn put(&mut self, place: &Place, bytes: &[u8]) -> Range<usize>
         requires { place.now.at + length bytes.now < 2 ^ 32 }
         ensures order { result.start ≤ result.end }
@@ -65,21 +65,22 @@ impl<A: Allocator + Copy> Copies<A> {
         0..bytes.len()
     }
 
-    /// What was put into a store is forgotten.
+    /// Forgets what was put into a store.
     pub fn forget_store(&mut self, client: u32, store: u32) {
         if let Some(place) = place_of(&self.held, client, store) {
             self.held.swap_remove(place);
         }
     }
 
-    /// What was put into all stores of a client is forgotten.
+    /// Forgets what was put into all stores of a client.
     pub fn forget(&mut self, client: u32) {
         while let Some(place) = any_of(&self.held, client) {
             self.held.swap_remove(place);
         }
     }
 
-    /// Puts bytes into the copy of a store, which is made where there is none.
+    /// Puts bytes into the copy of a store, and makes one if there is none. The answer is which
+    /// differ.
     fn copy(&mut self, place: &Place, bytes: &[u8]) -> Result<Range<usize>, AllocError>
         requires { place.now.at + length bytes.now < 2 ^ 32 }
         ensures order { IfOk result (λ differs. differs.start ≤ differs.end) }
@@ -89,7 +90,7 @@ impl<A: Allocator + Copy> Copies<A> {
         put_into(&mut self.held[there], place.at as usize, bytes)
     }
 
-    /// The place of the copy of a store.
+    /// The place of the copy of a store. It makes one if there is none.
     fn find(&mut self, place: &Place) -> Result<usize, AllocError>
         ensures { IfOk result (λ there. there < vec_len self.new.held) }
     {

@@ -5,8 +5,8 @@ ghost use Rattle.wl_recording.specs.Recording.{Differs};
 
 use std::ops::Range;
 
-/// Where bytes differ from those held in their place, from the first that does to the last. The
-/// range is empty if none does.
+/// The range of bytes that differ from those held in their place, from the first to the last. It is
+/// empty if none does.
 pub fn difference(bytes: &[u8], held: &[u8]) -> Range<usize>
     requires { length held.now ≡ length bytes.now }
     ensures { Differs bytes.now held.now result.start result.end }
@@ -16,7 +16,7 @@ pub fn difference(bytes: &[u8], held: &[u8]) -> Range<usize>
     first..last
 }
 
-/// How many bytes at their front two pieces of one length share.
+/// How many bytes two pieces of one length share at their front.
 fn same_front(bytes: &[u8], held: &[u8]) -> usize
     requires { length held.now ≡ length bytes.now }
     ensures within { result ≤ length bytes.now }

@@ -10,7 +10,7 @@ use thiserror::Error;
 /// What a recording held.
 #[derive(Clone, Copy, Debug, PartialEq, Eq)]
 pub struct Summary {
-    /// How many lines it had.
+    /// How many lines it had, comments too.
     pub lines: u32,
     /// How many frames were shown.
     pub frames: u32,
@@ -33,7 +33,7 @@ pub enum ReplayError {
     /// The side file that this line asks for isn't there, or failed.
     #[error("side file failed at line {0}")]
     Side(u32),
-    /// There is no memory for it.
+    /// Memory ran out.
     #[error("out of memory")]
     Memory,
 }

@@ -5,7 +5,7 @@ ghost use Rattle.wl_recording.specs.Line.{byte_of, bytes_in, hex_value};
 
 use std::alloc::{AllocError, Allocator};
 
-/// The value of a hex digit in either case.
+/// The value of a hex digit, in upper or lower case.
 fn digit(b: u8) -> Option<u8>
     ensures value { result ≡ hex_value b }
     ensures small { IfSome result (λ value. value < 16) }
@@ -27,8 +27,8 @@ fn byte(high: u8, low: u8) -> Option<u8>
     Some(16 * high + low)
 }
 
-/// Puts the bytes that a text spells into `bytes`: two hex digits for each, with spaces between
-/// bytes. The answer is false if it spells none.
+/// Puts the bytes that a text spells into `bytes`. Two hex digits spell a byte, and spaces may
+/// stand between bytes. The answer is false if the text spells none.
 pub(crate) fn decode<A: Allocator>(text: &[u8], bytes: &mut Vec<u8, A>) -> Result<bool, AllocError>
     ensures spelt { result ≡ Ok true → bytes_in text.now ≡ Some bytes.new.items }
     ensures bad { result ≡ Ok false → bytes_in text.now ≡ None }

@@ -15,11 +15,11 @@ use std::alloc::{AllocError, Allocator};
 #[derive(Clone, Copy, Debug, PartialEq, Eq)]
 pub enum Line<'a> {
     Connect,
-    /// A piece of a client's stream; its bytes come beside.
+    /// A client sends a piece of its stream. The bytes come beside.
     Bytes { client: u32 },
-    /// A store write; its bytes come beside.
+    /// Bytes are put into a store. They come beside.
     Store { place: Place },
-    /// The bytes of a side file go into a store.
+    /// The bytes of a side file are put into a store.
     File { place: Place, name: &'a str },
     Gone { client: u32 },
     /// The pointer moves to this point of the output. `time` is in milliseconds. `x` and `y` are in
@@ -35,6 +35,10 @@ pub enum Line<'a> {
 
 /// Parses a line without its line feed, and puts the bytes that it spells into `piece`. `None` if
 /// it isn't a line of a recording.
+///
+/// # Errors
+///
+/// `AllocError` if there is no memory for these bytes.
 pub fn parse<'a, A: Allocator>(
     text: &'a [u8],
     piece: &mut Vec<u8, A>,
@@ -55,7 +59,7 @@ pub fn is_comment(text: &[u8]) -> bool
     !text.is_empty() && text[0] == b'#'
 }
 
-/// Parses a line from its first word and the rest.
+/// Parses a line by its first word and the rest.
 fn parse_words<'a, A: Allocator>(
     word: &[u8],
     rest: &'a [u8],
@@ -129,7 +133,7 @@ fn parse_file(rest: &[u8]) -> Option<Line<'_>>
     Some(Line::File { place, name })
 }
 
-/// The motion, if a text has exactly its three words.
+/// The motion, if a text is exactly its three words.
 fn parse_motion(rest: &[u8]) -> Option<Line<'static>>
     ensures { (piece : List ℕ) → option_map (meaning piece) result ≡ asked_motion rest.now }
 {
@@ -152,7 +156,7 @@ fn motion_by(time: &[u8], x: &[u8], y: &[u8]) -> Option<Line<'static>>
     Some(Line::Motion { time, x, y })
 }
 
-/// The press or release, if a text has exactly its three words.
+/// The press or release, if a text is exactly its three words.
 fn parse_button(rest: &[u8]) -> Option<Line<'static>>
     ensures { (piece : List ℕ) → option_map (meaning piece) result ≡ asked_button rest.now }
 {

@@ -8,7 +8,7 @@ use std::alloc::{AllocError, Allocator};
 use std::io::{BufRead, ErrorKind};
 use thiserror::Error;
 
-/// How many bytes a line may have, without its line feed.
+/// How many bytes a line may have, besides its line feed.
 pub const LINE_LIMIT: usize = 140_000;
 
 /// Why no line was read.
@@ -20,7 +20,7 @@ pub enum LineError {
     /// The line has more than 140,000 bytes.
     #[error("the line is too long")]
     TooLong,
-    /// There is no memory for the line.
+    /// Memory ran out for the line.
     #[error("out of memory")]
     Memory,
 }
@@ -35,8 +35,13 @@ pub(crate) enum Part {
     End,
 }
 
-/// Reads the next line into `line`, without its line feed, which the last may lack. The answer is
-/// false at the end.
+/// Reads the next line into `line`, without its line feed. The last line may lack that. The answer
+/// is false at the end.
+///
+/// # Errors
+///
+/// `Read` if the reader fails, `TooLong` if the line has more than 140,000 bytes, or `Memory`. A
+/// part of the line may be taken then.
 pub fn read_line<R: BufRead, A: Allocator>(
     reader: &mut R,
     line: &mut Vec<u8, A>,
@@ -93,7 +98,8 @@ fn take_part<R: BufRead, A: Allocator>(
     Ok(part)
 }
 
-/// How many bytes there are up to the first line feed, with it, or in all; at most `room`.
+/// How many bytes stand up to the first line feed, with it, or in all if there is none. The answer
+/// is at most `room`.
 fn end_of(bytes: &[u8], room: usize) -> usize
     requires { 1 ≤ room }
     ensures within { result ≤ length bytes.now }

@@ -22,8 +22,8 @@ pub enum PointerLine {
     Bad,
 }
 
-/// What a line without its line feed asks: `motion T X Y`, `button T CODE 0` or `button T CODE 1`,
-/// in words with spaces between.
+/// What a line asks, without its line feed: `motion T X Y`, `button T CODE 0` or `button T CODE 1`,
+/// with spaces between the words.
 pub fn pointer_line(text: &[u8]) -> PointerLine
     ensures { result ≡ pointer_by text.now }
 {
@@ -42,7 +42,7 @@ pub fn pointer_line(text: &[u8]) -> PointerLine
     }
 }
 
-/// The motion, if a text has exactly its three words.
+/// The motion, if a text is exactly its three words.
 fn motion_in(text: &[u8]) -> Option<PointerLine>
     ensures { result ≡ motion_in text.now }
 {
@@ -65,7 +65,7 @@ fn motion_by(time: &[u8], x: &[u8], y: &[u8]) -> Option<PointerLine>
     Some(PointerLine::Motion { time, x, y })
 }
 
-/// The button, if a text has exactly its three words.
+/// The press or release, if a text is exactly its three words.
 fn button_in(text: &[u8]) -> Option<PointerLine>
     ensures { result ≡ button_in text.now }
 {

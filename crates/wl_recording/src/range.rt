@@ -9,7 +9,7 @@ use crate::numbers::number;
 use crate::word::cut_word;
 use wl_store::StoreNo;
 
-/// A range of a client's store: its first byte, from 0, and how many bytes it has, at most. It also
+/// A range of a client's store: its first byte, from 0, and how many bytes it has at most. It also
 /// has the byte of a side file that the first one comes from.
 #[derive(Clone, Copy, Debug, PartialEq, Eq)]
 pub struct StoreRange {
@@ -19,9 +19,11 @@ pub struct StoreRange {
     pub from: u32,
 }
 
-/// The range that the first line of a text names, and what follows that line. `None` if:
-/// - the text has no line that ends with a line feed;
-/// - that line isn't `K AT LEN FROM` in decimal numbers;
+/// The range that the first line of a text names, and what follows that line.
+///
+/// `None` if one of these holds:
+/// - no line of the text ends with a line feed;
+/// - the first line isn't `K AT LEN FROM` in decimal numbers;
 /// - the range doesn't begin behind the one before.
 pub fn next_range(before: Option<StoreRange>, text: &[u8]) -> Option<(StoreRange, &[u8])>
     ensures range { option_map (λ found. found.0) result ≡ first_range before (lines_of text.now) }

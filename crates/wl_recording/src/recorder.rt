@@ -1,4 +1,4 @@
-//! A recording that is written as it happens.
+//! The writer of a recording, line by line as things happen.
 
 ghost use Rattle.std.specs.Prelude.{◌≡◌, ◌≤◌, ◌++◌, ◌∷◌, [], ℕ, List, OnOk, Option, length};
 ghost use Rattle.std.specs.Io.KnownBytes.{Keeps};
@@ -14,8 +14,8 @@ use std::marker::Model;
 /// How many lines a recording may have.
 pub const MAX_LINES: u32 = 1_000_000;
 
-/// Writes a recording: a line for each thing that is asked. When a recording has as many lines as
-/// it may have, the last one says so, and nothing more is written.
+/// Writes a recording: a line for each thing that is asked. The last line that a recording may have
+/// says that it ends. Nothing more is written then.
 #[derive(Drop)]
 pub struct Recorder<W> {
     writer: W,
@@ -38,8 +38,11 @@ impl<W: Write> Recorder<W> {
         Recorder { writer, lines: 0 }
     }
 
-    /// Writes what is asked. `piece` has the bytes of a `Bytes` or a `Store`. An `Err` is the
-    /// writer's; a part of the line may have been written then.
+    /// Writes the line that asks this. `piece` has the bytes of a `Bytes` or a `Store`.
+    ///
+    /// # Errors
+    ///
+    /// The writer's. It may have written a part of the line then.
     pub fn record(&mut self, line: &Line<'_>, piece: &[u8]) -> io::Result<()>
         ensures { OnOk result ((first : Option (List ℕ)) (asked : List Asked) → Holds MAX_LINES W.contents first asked self.old
             → Holds MAX_LINES W.contents first (asked ++ meaning piece.now line.now ∷ []) self.new) }
@@ -55,7 +58,7 @@ impl<W: Write> Recorder<W> {
         }
     }
 
-    /// Flushes what was written.
+    /// Flushes the writer. The only error is the writer's.
     pub fn flush(&mut self) -> io::Result<()>
         ensures text { Keeps (W.contents self.old.writer) (W.contents self.new.writer) }
         ensures lines { self.new.lines ≡ self.old.lines }

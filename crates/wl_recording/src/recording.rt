@@ -1,4 +1,4 @@
-//! The recording of what a server's clients do.
+//! A recording of what a server's clients do, and which client has which number in it.
 
 ghost use Rattle.std.specs.Prelude.{◌≡◌, ◌<◌, ◌≤◌, ◌+◌, ◌-◌, ◌^◌, ◌++◌, ◌∷◌, [], ℕ, List, None, IfSome, OnOk, Option, Some, drop, false, length, replicate, take};
 ghost use Rattle.std.specs.Io.KnownBytes.{Keeps};
@@ -16,8 +16,8 @@ use std::io;
 use std::io::{ErrorKind, Write};
 use std::marker::Model;
 
-/// A recording of what a server's clients do. The clients are named by their numbers in its
-/// session. After a write failed nothing more is written.
+/// A recording of what a server's clients do. The calls name clients by their numbers in its
+/// session. After a failed write it writes nothing more.
 #[derive(Drop)]
 pub struct Recording<A: Allocator, W> {
     recorder: Recorder<W>,
@@ -35,7 +35,7 @@ impl<A: Allocator, W> Model for Recording<A, W> {
 }
 
 impl<A: Allocator + Copy, W: Write> Recording<A, W> {
-    /// Nothing is recorded yet, and nobody is there.
+    /// A recording of nothing, without clients.
     pub fn new(alloc: A, writer: W) -> Recording<A, W>
         ensures { result ≡ record { written = record { writer = writer; lines = 0 }; clients = replicate 32 None; has_failed = false } }
     {
@@ -47,7 +47,7 @@ impl<A: Allocator + Copy, W: Write> Recording<A, W> {
         }
     }
 
-    /// A client connected, and gets the lowest free number of the recording.
+    /// A client connects, and gets the lowest free number of the recording.
     pub fn connect(&mut self, client: u32)
         ensures asked { (first : Option (List ℕ)) (asked : List Asked) → HoldsTo 1000000 W.contents first asked self.old
             → HoldsTo 1000000 W.contents first (asked ++ Connect ∷ []) self.new }
@@ -57,7 +57,8 @@ impl<A: Allocator + Copy, W: Write> Recording<A, W> {
         self.roster.join(client);
     }
 
-    /// A piece of a client's stream came. A long one is cut, since a stream may be cut anywhere.
+    /// A client sends a piece of its stream. A long piece goes into several lines, since a stream
+    /// may be cut anywhere.
     pub fn feed(&mut self, client: u32, piece: &[u8])
         ensures asked { (first : Option (List ℕ)) (asked : List Asked) → HoldsTo 1000000 W.contents first asked self.old
             → (more : List Asked) × Feeds (number_of client self.old.clients) piece.now more × HoldsTo 1000000 W.contents first (asked ++ more) self.new }
@@ -68,7 +69,8 @@ impl<A: Allocator + Copy, W: Write> Recording<A, W> {
         }
     }
 
-    /// Bytes come into a client's store. Written is what differs from what was put there before, from the first byte that does to the last.
+    /// Bytes come into a client's store. The line has those that differ from what stood there, from
+    /// the first to the last.
     pub fn store(&mut self, place: &Place, bytes: &[u8])
         requires short { length bytes.now ≤ PIECE_LIMIT }
         requires room { place.now.at + length bytes.now < 2 ^ 32 }
@@ -83,21 +85,21 @@ impl<A: Allocator + Copy, W: Write> Recording<A, W> {
         }
     }
 
-    /// The least number, above this one, of a store of this client that bytes came into.
+    /// The least number above this one of a store of this client that bytes came into.
     pub fn next_store(&self, client: u32, number: u32) -> Option<u32>
         ensures { IfSome result (λ next. number < next) }
     {
         self.copies.next_store(client, number)
     }
 
-    /// A store of a client isn't there any more.
+    /// Forgets a store of a client, which isn't there any more.
     pub fn forget_store(&mut self, client: u32, store: u32)
         ensures { self.new ≡ self.old }
     {
         self.copies.forget_store(client, store);
     }
 
-    /// A client goes. It isn't forgotten yet.
+    /// A client goes. It keeps its number until it leaves.
     pub fn gone(&mut self, client: u32)
         ensures asked { (first : Option (List ℕ)) (asked : List Asked) → HoldsTo 1000000 W.contents first asked self.old
             → HoldsTo 1000000 W.contents first (asked ++ goes (number_of client self.old.clients)) self.new }
@@ -108,7 +110,7 @@ impl<A: Allocator + Copy, W: Write> Recording<A, W> {
         }
     }
 
-    /// A client ended, and its number in the recording is free.
+    /// A client ended. Its number in the recording is free again.
     pub fn leave(&mut self, client: u32)
         ensures written { self.new.written ≡ self.old.written }
         ensures has_failed { self.new.has_failed ≡ self.old.has_failed }
@@ -118,7 +120,7 @@ impl<A: Allocator + Copy, W: Write> Recording<A, W> {
         self.copies.forget(client);
     }
 
-    /// The number in the recording of a client of the session.
+    /// The number that a client of the session has in the recording. `None` if it has none.
     pub fn number(&self, client: u32) -> Option<u32>
         ensures { result ≡ number_of client self.now.clients }
     {
@@ -140,7 +142,7 @@ impl<A: Allocator + Copy, W: Write> Recording<A, W> {
         }
     }
 
-    /// What was written isn't held back any more. An `Err` tells that a write failed, then or before.
+    /// Flushes the writer. An `Err` says that a write failed, now or before.
     pub fn flush(&mut self) -> io::Result<()>
         ensures asked { (first : Option (List ℕ)) (asked : List Asked) → HoldsTo 1000000 W.contents first asked self.old
             → HoldsTo 1000000 W.contents first asked self.new }
@@ -155,7 +157,8 @@ impl<A: Allocator + Copy, W: Write> Recording<A, W> {
         flushed
     }
 
-    /// Bytes go into a store of a client, by its number in the recording.
+    /// Writes that bytes are put into a store. `client` is the number in the recording, and `from`
+    /// says how many bytes behind the place these begin.
     fn store_there(&mut self, client: u32, place: &Place, from: usize, piece: &[u8])
         requires { place.now.at + from < 2 ^ 32 }
         ensures asked { (first : Option (List ℕ)) (asked : List Asked) → HoldsTo 1000000 W.contents first asked self.old
@@ -173,7 +176,7 @@ impl<A: Allocator + Copy, W: Write> Recording<A, W> {
         self.record(&Line::Store { place: there }, piece);
     }
 
-    /// The bytes of a client, by its number in the recording, in lines.
+    /// Writes the bytes of a client in lines. `client` is the number in the recording.
     fn feed_all(&mut self, client: u32, piece: &[u8])
         ensures asked { (first : Option (List ℕ)) (asked : List Asked) → HoldsTo 1000000 W.contents first asked self.old
             → (more : List Asked) × Feeds (Some client) piece.now more × HoldsTo 1000000 W.contents first (asked ++ more) self.new }

@@ -46,7 +46,7 @@ pub fn write_outside<W: Write>(client: u32, store: u32, writer: &mut W) -> io::R
     write!(writer, "outside {client} {store}\n")
 }
 
-/// A frame was shown, with this many damaged pixels.
+/// A frame was shown at this time, in milliseconds, with this many damaged pixels.
 pub fn write_frame<W: Write>(time: u32, count: u32, writer: &mut W) -> io::Result<()>
     ensures { OnOk result (Appends (W.contents writer.old) (W.contents writer.new) (frame_line time count)) }
 {

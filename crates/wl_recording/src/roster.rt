@@ -8,11 +8,11 @@ use std::marker::Model;
 /// The greatest number of clients.
 const CLIENTS: usize = 32;
 
-/// Which client of a session has which number in a recording of it. Contracts see the numbers in
-/// the session, by those in the recording, from 1.
+/// Which client of a session has which number in its recording. Contracts see the numbers in the
+/// session, by those in the recording, from 1.
 ///
 /// A replay gives each client that connects the lowest free number, and frees it when the client
-/// ends. A session frees its number later.
+/// ends. A session frees its own numbers later.
 #[derive(Drop)]
 pub struct Roster {
     clients: [Option<u32>; CLIENTS],

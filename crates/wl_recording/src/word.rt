@@ -5,7 +5,7 @@ ghost use Rattle.std.specs.List.{prefix_len};
 ghost use Rattle.wl_recording.specs.Line.{after_word, first_word, is_blank};
 ghost use Rattle.wl_recording.specs.Ranges.{before_space, behind_space};
 
-/// The first word of a text (empty if it has none), and what follows it.
+/// The first word of a text, and what follows it. The word is empty if there is none.
 pub fn next_word(text: &[u8]) -> (&[u8], &[u8])
     ensures word { result.0.now ≡ first_word text.now }
     ensures rest { result.1.now ≡ after_word text.now }
@@ -14,8 +14,8 @@ pub fn next_word(text: &[u8]) -> (&[u8], &[u8])
     text.split_at(word_len(text))
 }
 
-/// What is before the first space of a text, and what is behind it. Without a space all of it is
-/// before.
+/// What stands before the first space of a text, and what behind it. Without a space all of it
+/// stands before.
 pub(crate) fn cut_word(text: &[u8]) -> (&[u8], &[u8])
     ensures word { result.0.now ≡ before_space text.now }
     ensures rest { result.1.now ≡ behind_space text.now }

@@ -12,11 +12,15 @@ use crate::report::write_hex;
 use std::io;
 use std::io::Write;
 
-/// How many bytes one line may spell: two digits each, beside a word and three numbers.
+/// How many bytes one line may spell. Each takes two digits, besides a word and three numbers.
 pub const PIECE_LIMIT: usize = 65_536;
 
 /// Appends the line that asks this, with its line feed. `piece` has the bytes of a `Bytes` or a
-/// `Store`. After an `Err` a part of the line may have been written.
+/// `Store`.
+///
+/// # Errors
+///
+/// The writer's. It may have written a part of the line then.
 pub fn write_line<W: Write>(line: &Line<'_>, piece: &[u8], writer: &mut W) -> io::Result<()>
     ensures { OnOk result (Appends (W.contents writer.old) (W.contents writer.new) (line_of (meaning piece.now line.now))) }
 {
@@ -24,15 +28,15 @@ pub fn write_line<W: Write>(line: &Line<'_>, piece: &[u8], writer: &mut W) -> io
     writer.write_all(b"\n")
 }
 
-/// Appends the last line of a recording that has as many lines as it may have. It asks nothing.
+/// Appends the line that ends a recording with as many lines as it may have. It asks nothing.
 pub fn write_last_line<W: Write>(writer: &mut W) -> io::Result<()>
     ensures { OnOk result (Appends (W.contents writer.old) (W.contents writer.new) last_line) }
 {
     writer.write_all(b"# the recording ends here: it has as many lines as a recording may have\n")
 }
 
-/// A written line is read as what it was written from, if its numbers fit and it has between 1 and
-/// `PIECE_LIMIT` bytes.
+/// A line that was written is read as what it was written from. Its numbers have to fit, and it
+/// spells from 1 to `PIECE_LIMIT` bytes.
 pub fn written_is_read()
     ensures { WrittenIsRead PIECE_LIMIT LINE_LIMIT }
 {}

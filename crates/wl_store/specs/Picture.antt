@@ -1,4 +1,5 @@
--- What is seen of a picture: bytes, where a buffer lies in them, and how a surface shows it, turned and scaled.
+-- What is seen of a picture: the bytes, the place of the buffer in them, and how a surface shows
+-- it, turned and scaled.
 use Rattle.std.proofs.lemmas.Bool.{leb-true, ltb-true}
 use Rattle.std.specs.Prelude.{◌≡◌, refl, ◌^◌, ℕ, ◌+◌, ◌*◌, ◌/◌, ◌<◌, nat_le, List, [], ◌∷◌, length, cond, Option, Some, None}
 use Rattle.wl_store.specs.declared.color.Argb.{Argb}
@@ -16,13 +17,14 @@ pub record Shown : Type 0 where
   pub transform : Transform
   pub scale : ℕ
 
--- the picture of a buffer that lies so in these bytes, if it ends within them
+-- the picture of a buffer with this layout in these bytes, if it ends within them
 abbrev pub lent : List ℕ → Layout → Transform → ℕ → Option Shown
 lent bytes l transform scale = cond (nat_le (l.offset + l.stride * l.h) (length bytes))
     (Some (record { bytes = bytes; layout = l; transform = transform; scale = scale })) None
 
--- The width and the height of the surface that shows the picture: the buffer's, divided by the scale and rounded down; an odd transform
--- exchanges them (wayland.xml, wl_surface.set_buffer_scale).
+-- The width and the height of the surface that shows the picture: the buffer's, divided by the
+-- scale and rounded down. An odd transform exchanges them (wayland.xml,
+-- wl_surface.set_buffer_scale).
 abbrev pub surface_width : Shown → ℕ
 surface_width p = cond (is_turned p.transform) (p.layout.h / p.scale) (p.layout.w / p.scale)
 
@@ -37,12 +39,13 @@ point_shown p i j = scaled p.scale (buffer_point p.transform (surface_width p) (
 abbrev pub color_at : Shown → ℕ → ℕ → Argb
 color_at p i j = buffer_color p.bytes p.layout (point_shown p i j)
 
--- the bytes are those of so many points of the surface from (i, j) to the right, four each, in this format
+-- The bytes are those of `count` points of the surface from (i, j) to the right, four each, in this
+-- format.
 pub record ArePoints (p : Shown) (i j count : ℕ) (bytes : List ℕ) (format : Format) : Type 0 where
   pub as_many : length bytes ≡ 4 * count
   pub colors : (k : ℕ) → k < count → argb_of format bytes k ≡ color_at p (i + k) j
 
--- where a buffer of one pixel lies that is all there is
+-- the layout of a buffer of one pixel, which is all that there is
 abbrev pub one_pixel : Layout
 one_pixel =
     record {
@@ -59,6 +62,6 @@ one_pixel =
       stride_fits = ltb-true 4 (2 ^ 31) refl;
     }
 
--- a picture of one pixel, which leaves what is below it as it is
+-- a picture of one transparent pixel: what lies below it stays as it is
 abbrev pub transparent : Shown
 transparent = record { bytes = 0 ∷ 0 ∷ 0 ∷ 0 ∷ []; layout = one_pixel; transform = Normal; scale = 1 }

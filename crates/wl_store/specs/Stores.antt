@@ -29,11 +29,11 @@ store_at number stock = find (λ s. s.number == number) stock.held
 abbrev pub bytes_of : ℕ → Stock → Option (List ℕ)
 bytes_of number stock = option_map (λ s. s.bytes) (store_at number stock)
 
--- how many bytes the store of this number has: none where it isn't live
+-- how many bytes the store of this number has; 0 where it isn't live
 abbrev pub size_of : ℕ → Stock → ℕ
 size_of number stock = option_map_or (λ s. length s.bytes) (store_at number stock) 0
 
--- the least number of a live store that is above this one, if there is any
+-- the least number of a live store above this one, if there is one
 abbrev pub next_after : ℕ → Stock → Option ℕ
 next_after number stock = option_map (λ s. s.number) (find (λ s. nat_lt number s.number) stock.held)
 
@@ -45,7 +45,7 @@ total_size stock = sum_by (λ s. length s.bytes) stock.held
 abbrev pub with_change : ℕ → (Held → Held) → Stock → Stock
 with_change number change stock = record stock { held = map (λ s. cond (s.number == number) (change s) s) stock.held }
 
--- the stores but the one of this number
+-- the stores without the one of this number
 abbrev pub without_store : ℕ → Stock → Stock
 without_store number stock = record stock { held = filter (λ s. not (s.number == number)) stock.held }
 
@@ -53,72 +53,74 @@ without_store number stock = record stock { held = filter (λ s. not (s.number =
 abbrev pub is_full : Stock → Bool
 is_full stock = length stock.held == 64 || stock.made == 4294967295
 
--- why no store of this size is made, if it isn't: the first reason
+-- why no store of this size is made, if it isn't: the first reason that holds
 abbrev pub create_refusal : ℤ → Stock → Option StoreError
 create_refusal size stock =
     cond (is_full stock) (Some TooMany) (
     cond (int_lt (pos 268435456) (pos (total_size stock) +ℤ size)) (Some TooLarge) (
     cond (int_le size (pos 0)) (Some BadSize) None))
 
--- why no store of this size is made beside `total` bytes, if it isn't: the first reason
+-- why no store of this size is made beside `total` bytes, if it isn't: the first reason that holds
 abbrev pub new_refusal : ℕ → ℤ → Option StoreError
 new_refusal total size =
     cond (int_lt (pos 268435456) (pos total +ℤ size)) (Some TooLarge) (
     cond (int_le size (pos 0)) (Some BadSize) None)
 
--- a store of zeros more, with one use
+-- the stores with one more, of zeros, with one use
 abbrev pub created : ℕ → Stock → Stock
 created size stock = record {
   held = stock.held ++ record { number = stock.made + 1; bytes = replicate size 0; uses = 1 } ∷ [];
   made = stock.made + 1;
 }
 
--- why a store of `present` bytes, of `total` in all, doesn't get this size, if it doesn't: the first reason
+-- why a store of `present` bytes, one of `total` in all, doesn't get this size, if it doesn't: the
+-- first reason that holds
 abbrev pub size_refusal : ℕ → ℕ → ℤ → Option StoreError
 size_refusal total present size =
     cond (int_lt (pos 268435456) ((pos total -ℤ pos present) +ℤ size)) (Some TooLarge) (
     cond (int_lt size (pos present)) (Some Shrinks) None)
 
--- the same of the store of a number
+-- the same of the store of a number, which has to be live
 abbrev pub resize_refusal : ℕ → ℤ → Stock → Option StoreError
 resize_refusal number size stock =
     option_map_or (λ s. size_refusal (total_size stock) (length s.bytes) size) (store_at number stock) (Some NoStore)
 
--- zeros at the end of the store, up to this size
+-- the stores, with zeros at the end of one, up to this size
 abbrev pub resized : ℕ → ℕ → Stock → Stock
 resized number size = with_change number (λ s. record s { bytes = s.bytes ++ replicate (size - length s.bytes) 0 })
 
--- why so many bytes aren't written there, if they aren't
+-- why so many bytes aren't written from `at` on, if they aren't: the first reason that holds
 abbrev pub write_refusal : ℕ → ℕ → ℕ → Stock → Option StoreError
 write_refusal number at count stock =
     option_map_or (λ s. cond (nat_lt (length s.bytes) (at + count)) (Some OutOfRange) None) (store_at number stock) (Some NoStore)
 
--- these bytes in place of as many from `at` on
+-- the stores, with these bytes over as many from `at` on
 abbrev pub written : ℕ → ℕ → List ℕ → Stock → Stock
 written number at bytes = with_change number (λ s. record s { bytes = take at s.bytes ++ bytes ++ drop (at + length bytes) s.bytes })
 
--- the store is live and has not all the uses that can be counted
+-- the store is live and has room for one more use
 abbrev pub can_hold : ℕ → Stock → Bool
 can_hold number stock = option_map_or (λ s. nat_lt s.uses 4294967295) (store_at number stock) false
 
--- how many uses a store has: none where it isn't live
+-- how many uses a store has; 0 where it isn't live
 abbrev pub uses_of : ℕ → Stock → ℕ
 uses_of number stock = option_map_or (λ s. s.uses) (store_at number stock) 0
 
--- one use more
+-- the stores, with one use more of this one
 abbrev pub used : ℕ → Stock → Stock
 used number = with_change number (λ s. record s { uses = s.uses + 1 })
 
--- one use less; at none the store is gone
+-- the stores, with one use less of this one; without uses it is gone
 abbrev pub let_go : ℕ → Stock → Stock
 let_go number stock =
     cond (nat_le (uses_of number stock) 1) (without_store number stock) (with_change number (λ s. record s { uses = s.uses - 1 }) stock)
 
--- the picture that a store lends, turned and scaled so, where it is live and the layout ends within it
+-- the picture that a store lends, with this layout, transform and scale, where it is live and the
+-- layout ends within it
 abbrev pub picture_turned : ℕ → Layout → Transform → ℕ → Stock → Option Shown
 picture_turned number l transform scale stock = option_and_then (λ bytes. lent bytes l transform scale) (bytes_of number stock)
 
--- the same by the transform's number
+-- the same, by the number of the transform
 abbrev pub picture_of : ℕ → Layout → ℕ → ℕ → Stock → Option Shown
 picture_of number l transform scale stock = picture_turned number l (transform_of transform) scale stock
 
@@ -127,14 +129,14 @@ abbrev pub IsNumbered : ℕ → ℕ → List Held → Type 0
 IsNumbered low made [] = low ≤ made
 IsNumbered low made (s ∷ ss) = (low < s.number) × IsNumbered s.number made ss
 
--- the stores are numbered, and within the limits
+-- The stores are numbered, and within the limits.
 pub record IsSound (held : List Held) (made total : ℕ) : Type 0 where
   pub numbered : IsNumbered 0 made held
   pub few : length held ≤ 64
   pub summed : total ≡ sum_by (λ s. length s.bytes) held
   pub small : total ≤ 268435456
 
--- the store of this number lies there
+-- The store of this number is at this place.
 pub record IsPlace (held : List Held) (number place : ℕ) : Type 0 where
   pub within : place < length held
   pub found : find (λ s. s.number == number) held ≡ slice_get held place

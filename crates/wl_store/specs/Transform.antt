@@ -22,7 +22,7 @@ is_turned Flipped90 = true
 is_turned Flipped180 = false
 is_turned Flipped270 = true
 
--- the buffer point that the point (i, j) of a surface of w by h shows
+-- the buffer point that the point (i, j) of a surface of w by h points shows
 abbrev pub buffer_point : Transform → ℕ → ℕ → ℕ → ℕ → ℕ × ℕ
 buffer_point Normal w h i j = (i, j)
 buffer_point Rotated90 w h i j = (j, w - 1 - i)
@@ -33,7 +33,8 @@ buffer_point Flipped90 w h i j = (j, i)
 buffer_point Flipped180 w h i j = (i, h - 1 - j)
 buffer_point Flipped270 w h i j = (h - 1 - j, w - 1 - i)
 
--- a point of a buffer of that scale: both coordinates times the scale (wayland.xml, wl_surface.set_buffer_scale)
+-- a point of a surface in points of its buffer: both coordinates times the scale (wayland.xml,
+-- wl_surface.set_buffer_scale)
 abbrev pub scaled : ℕ → ℕ × ℕ → ℕ × ℕ
 scaled scale point = (point.0 * scale, point.1 * scale)
 

@@ -11,7 +11,8 @@ fn natural(number: i32) -> Option<u32>
     u32::try_from(number).ok()
 }
 
-/// Whether the rows are wide enough and end within `size` bytes, and there are some of both.
+/// Whether there are rows and columns, each row is as wide as its pixels, and the last ends within
+/// `size` bytes.
 fn is_room(size: u32, offset: u32, w: u32, h: u32, stride: u32) -> bool
     ensures { result ≡ has_room size offset w h stride }
 {
@@ -19,7 +20,8 @@ fn is_room(size: u32, offset: u32, w: u32, h: u32, stride: u32) -> bool
     0 < w && 0 < h && 4 * u64::from(w) <= u64::from(stride) && end <= u64::from(size)
 }
 
-/// The layout of a buffer in a store of `size` bytes, as wl_shm_pool.create_buffer asks for it.
+/// Judges where a buffer lies in a store of `size` bytes (wayland.xml, wl_shm_pool.create_buffer).
+/// `offset` and `stride` are in bytes, `w` and `h` in pixels of the buffer.
 ///
 /// # Errors
 ///

@@ -10,8 +10,8 @@ use crate::scale::Scale;
 use crate::transform::{Course, Transform};
 use std::marker::Model;
 
-/// The content of a surface, lent from a store: the bytes as they are now, where the buffer lies in
-/// them, and how the surface shows it, turned and scaled.
+/// The content of a surface, lent from a store. It has the bytes as they are now and the place of
+/// the buffer in them. It also says how the surface shows the buffer, turned and scaled.
 #[derive(Drop)]
 pub struct Picture<'a> {
     bytes: &'a [u8],
@@ -82,7 +82,7 @@ impl<'a> Picture<'a> {
         })
     }
 
-    /// A picture of one pixel, which leaves what is below it as it is.
+    /// A picture of one transparent pixel: what lies below it stays as it is.
     pub fn transparent() -> Self
         ensures { result ≡ transparent }
     {
@@ -113,22 +113,24 @@ impl<'a> Picture<'a> {
         }
     }
 
-    /// The width of the surface, in pixels: that of the buffer, or its height if it is turned by a
-    /// quarter, divided by the scale and rounded down.
+    /// The width of the surface, in its own pixels. It is the buffer's width, or its height if the
+    /// transform turns it by a quarter, divided by the scale and rounded down (wayland.xml,
+    /// wl_surface.set_buffer_transform, set_buffer_scale).
     pub fn width(&self) -> u32
         ensures { result ≡ surface_width self.now }
     {
         self.sides().0
     }
 
-    /// The height of the surface, in pixels, found in the same way.
+    /// The height of the surface, in its own pixels. It is the buffer's height, or its width if the
+    /// transform turns it by a quarter, divided by the scale and rounded down.
     pub fn height(&self) -> u32
         ensures { result ≡ surface_height self.now }
     {
         self.sides().1
     }
 
-    /// The bytes of the pixels of row `j` of the buffer, from the left, four a pixel.
+    /// Lends row `j` of the buffer, counted from 0: its pixels from the left, four bytes each.
     pub fn row(&self, j: u32) -> &'a [u8]
         requires { j < self.now.layout.h }
         ensures lent { let start = self.now.layout.offset + j * self.now.layout.stride in
@@ -140,8 +142,11 @@ impl<'a> Picture<'a> {
         &self.bytes[start..start + 4 * self.layout.w as usize]
     }
 
-    /// The bytes of the `count` points of the surface from (i, j) to the right, four a pixel, and their format, where each row of the surface is a
-    /// row of the buffer: where the scale is 1, and the transform is normal or turns the buffer upside down.
+    /// Lends the bytes of `count` points of the surface, from (i, j) to the right, four bytes each.
+    /// It also answers their format.
+    ///
+    /// `None` if the rows of the surface aren't rows of the buffer. They are at scale 1, with a
+    /// transform that is normal or turns the buffer upside down.
     pub fn points(&self, i: u32, j: u32, count: u32) -> Option<(&'a [u8], Format)>
         requires columns { i + count ≤ surface_width self.now }
         requires row { j < surface_height self.now }
@@ -173,7 +178,7 @@ impl<'a> Picture<'a> {
         (x * self.scale.number, y * self.scale.number)
     }
 
-    /// The colour at the point (i, j) of the surface.
+    /// The colour at the point (i, j) of the surface, in its own pixels from its upper left corner.
     pub fn pixel(&self, i: u32, j: u32) -> Argb
         requires column { i < surface_width self.now }
         requires row { j < surface_height self.now }
@@ -183,8 +188,8 @@ impl<'a> Picture<'a> {
         buffer_pixel(self.bytes, &self.layout, x, y)
     }
 
-    /// Reads the points of the surface from (i, j) to the right into a run of pixels, four bytes
-    /// each, up to its end. The answer is their format.
+    /// Fills `run` with the points of the surface from (i, j) to the right, four bytes each. The
+    /// answer is their format.
     pub fn read(&self, i: u32, j: u32, run: &mut [u8]) -> Format
         requires whole { length run.old % 4 ≡ 0 }
         requires columns { i + length run.old / 4 ≤ surface_width self.now }
@@ -197,7 +202,7 @@ impl<'a> Picture<'a> {
         self.layout.format
     }
 
-    /// Reads points into a run of at least one pixel.
+    /// Fills a run of at least one pixel.
     fn fill(&self, i: u32, j: u32, run: &mut [u8])
         requires some { 0 < length run.old }
         requires whole { length run.old % 4 ≡ 0 }

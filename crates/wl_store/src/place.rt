@@ -4,7 +4,8 @@ use crate::color::Format;
 use thiserror::Error;
 
 /// Where a buffer's pixels lie in a store: `h` rows of `w` pixels of four bytes each. The first row
-/// is at `offset`, and each other one `stride` bytes after the one before.
+/// begins at byte `offset`, and each other one `stride` bytes after the one before (wayland.xml,
+/// wl_shm_pool.create_buffer).
 #[derive(Clone, Copy, Debug)]
 pub struct Layout {
     pub offset: u32,
@@ -20,13 +21,13 @@ pub struct Layout {
     pub ghost stride_fits: { stride < 2 ^ 31 },
 }
 
-/// Why a buffer can't be laid out as it was asked for.
+/// Why a buffer isn't laid out as a client asks.
 #[derive(Clone, Copy, Debug, PartialEq, Eq, Error)]
 pub enum LayoutError {
-    /// wl_shm: invalid_stride.
+    /// wl_shm.error, invalid_stride.
     #[error("invalid stride")]
     Stride = 1,
-    /// wl_shm: invalid_format.
+    /// wl_shm.error, invalid_format.
     #[error("invalid format")]
     Format = 2,
 }

@@ -9,11 +9,11 @@ pub struct Scale {
 }
 
 impl Scale {
-    /// The scale of a surface without another: it shows each point of its buffer.
+    /// The scale of a surface for which none was set: each of its points shows one of the buffer.
     pub const ONE: Scale = Scale { number: 1 };
 
-    /// A side of the surface that shows a buffer with this side. It leaves the division out if the
-    /// scale is 1, as it mostly is.
+    /// The side of the surface that shows a buffer with this side, in points. It divides only where
+    /// the scale isn't 1, since it mostly is.
     pub(crate) fn side(self, side: u32) -> u32
         ensures { result ≡ side / self.number }
     {

@@ -7,13 +7,14 @@ use std::marker::Model;
 
 /// One store: its number, its bytes, and how many uses it has.
 ///
-/// Until something is written to it, it is blank: it has room for its bytes and none of them, and lends the zeros that all blank stores share.
-/// So the time that it takes to make one, or to make it larger, doesn't grow with its size.
+/// It is blank until something is written to it. A blank store has room for its bytes and holds
+/// none yet. It lends the zeros that all blank stores share. So it takes no longer to make or to
+/// enlarge a large one than a small one.
 #[derive(Drop)]
 pub(crate) struct Store<A: Allocator> {
     number: u32,
     size: u32,
-    // None while the store is blank, and then there is room for all of them.
+    // Empty while the store is blank. It has room for all of them then.
     bytes: Vec<u8, A>,
     uses: u32,
 }
@@ -79,8 +80,9 @@ impl<A: Allocator> Store<A> {
         }
     }
 
-    /// Gives a blank store bytes of its own, for which it has room. Where no other store lends the zeros, they become its bytes, if they are as
-    /// many, and are freed otherwise.
+    /// Gives a blank store bytes of its own, for which it has room. If another store lends the
+    /// zeros, they stay. Else they become its bytes if they are as many, and are freed if they
+    /// aren't.
     pub(crate) fn fill(&mut self, zeros: &mut Zeros<A>, are_shared: bool)
         requires { self.old.blank ≡ true }
         ensures filled { self.new ≡ filled self.old }
@@ -98,7 +100,7 @@ impl<A: Allocator> Store<A> {
         }
     }
 
-    /// Changes the bytes from `at` on, of a store that isn't blank.
+    /// Writes bytes from `at` on. The store isn't blank.
     pub(crate) fn write(&mut self, at: u32, bytes: &[u8])
         requires within { at + length bytes.now ≤ length self.old.held.bytes }
         requires filled { self.old.blank ≡ false }
@@ -116,7 +118,8 @@ impl<A: Allocator> Store<A> {
 }
 
 impl<A: Allocator + Copy> Store<A> {
-    /// Puts zeros at the end, up to this size. A blank store gets room for as many bytes, into which nothing is copied.
+    /// Puts zeros at the end, up to this size. A blank store gets room for so many bytes, and
+    /// copies none. An error leaves it as it was.
     pub(crate) fn grow(&mut self, size: u32) -> Result<(), AllocError>
         requires { length self.old.held.bytes ≤ size }
         ensures ok { OnOk result (self.new.held ≡ record self.old.held { bytes = self.old.held.bytes ++ replicate (size - length self.old.held.bytes) 0 }) }

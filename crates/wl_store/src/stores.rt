@@ -20,7 +20,7 @@ pub const MAX_STORES: usize = 64;
 /// How many bytes the live stores may have together.
 pub const MAX_TOTAL: u32 = 268_435_456;
 
-/// The number of a store. Numbers rise from 1 and aren't used again.
+/// The number of a store. Numbers begin at 1, rise, and aren't used again.
 pub type StoreNo = u32;
 
 /// Why a store wasn't made or changed.
@@ -44,7 +44,7 @@ pub enum StoreError {
     /// The live stores would have more than 268,435,456 bytes together.
     #[error("the stores would be too large together")]
     TooLarge = 6,
-    /// There is no memory for it.
+    /// Memory ran out.
     #[error("out of memory")]
     Memory = 7,
 }
@@ -71,13 +71,15 @@ impl<T: Drop> From<AllocFailed<T>> for StoreError {
     }
 }
 
-/// A client's stores. At most 64 are live, together of at most 268,435,456 bytes.
+/// A client's stores (wayland.xml, wl_shm.create_pool). At most 64 are live, of at most 268,435,456
+/// bytes together.
 ///
-/// Those that nothing was written to share one run of zeros, which is as long as the longest of them was, and stays when they go. So however
-/// often a client makes stores and lets them go, no more zeros are written for it than the bytes it may have, until it writes to one.
+/// Stores that nothing was written to share one run of zeros. It is as long as the longest of them
+/// was, and stays when they go. So a client that makes stores and lets them go costs few writes: no
+/// more zeros than the bytes it may have, until it writes to a store.
 #[derive(Drop)]
 pub struct Stores<A: Allocator> {
-    // In rising number.
+    // By rising number.
     held: Vec<Store<A>, A>,
     made: u32,
     total: u32,
@@ -136,7 +138,8 @@ fn fill_at<A: Allocator>(held: &mut [Store<A>], zeros: &mut Zeros<A>, place: usi
     }
 }
 
-/// Puts zeros at the end of the store at `place`, up to this size.
+/// Puts zeros at the end of the store at `place`, up to this size. An error leaves all stores as
+/// they were.
 fn grow_at<A: Allocator + Copy>(
     held: &mut [Store<A>],
     zeros: &mut Zeros<A>,
@@ -157,7 +160,7 @@ fn grow_at<A: Allocator + Copy>(
     store.grow(size)
 }
 
-/// Why no store of this size is made beside `total` bytes, if it isn't.
+/// Why no store of this size is made beside `total` bytes. `None` if it may be made.
 fn new_refusal(total: u32, size: i32) -> Option<StoreError>
     ensures first { result ≡ new_refusal total size }
     ensures room { IfNone result (total + unsigned_abs size ≤ MAX_TOTAL) }
@@ -171,7 +174,7 @@ fn new_refusal(total: u32, size: i32) -> Option<StoreError>
     None
 }
 
-/// Why a store of `present` bytes, of `total` in all, doesn't get this size, if it doesn't.
+/// Why a store of `present` bytes, one of `total` in all, doesn't get this size. `None` if it may.
 fn size_refusal(total: u32, present: u32, size: i32) -> Option<StoreError>
     ensures first { result ≡ size_refusal total present size }
     ensures grows { IfNone result (present ≤ unsigned_abs size) }
@@ -197,7 +200,7 @@ impl<A: Allocator> Stores<A> {
         self.held.len() == MAX_STORES || self.made == u32::MAX
     }
 
-    /// How many bytes the store has, if it is live.
+    /// How many bytes the store has. `None` if it isn't live.
     pub fn size(&self, store: StoreNo) -> Option<u32>
         ensures { result ≡ option_map (λ s. length s.bytes) (store_at store self.now) }
     {
@@ -205,7 +208,7 @@ impl<A: Allocator> Stores<A> {
         Some(found.size())
     }
 
-    /// The bytes of the store as they are now; None where it isn't live.
+    /// The bytes of the store as they are now. `None` if it isn't live.
     pub fn bytes(&self, store: StoreNo) -> Option<&[u8]>
         ensures { option_copied result ≡ bytes_of store self.now }
     {
@@ -213,7 +216,7 @@ impl<A: Allocator> Stores<A> {
         Some(found.bytes(&self.zeros))
     }
 
-    /// The least number of a live store that is above this one, if there is one. It takes no
+    /// The least number of a live store above this one. `None` if there is none. It takes no
     /// memory.
     pub fn next_after(&self, number: StoreNo) -> Option<StoreNo>
         ensures next { result ≡ next_after number self.now }
@@ -223,11 +226,12 @@ impl<A: Allocator> Stores<A> {
         Some(found.number())
     }
 
-    /// Puts these bytes in place of those from `at` on.
+    /// Writes these bytes over those from byte `at` on, counted from 0.
     ///
     /// # Errors
     ///
-    /// `NoStore`, or `OutOfRange` if they pass the end of the store. Nothing changes then.
+    /// `NoStore` if the store isn't live. `OutOfRange` if the bytes pass its end. Nothing changes
+    /// then.
     pub fn write(&mut self, store: StoreNo, at: u32, bytes: &[u8]) -> Result<(), StoreError>
         ensures refused { IfSome (write_refusal store at (length bytes.now) self.old) (λ error. result ≡ Err error) }
         ensures accepted { IfNone (write_refusal store at (length bytes.now) self.old) (IsOk result) }
@@ -247,7 +251,7 @@ impl<A: Allocator> Stores<A> {
     }
 
     /// Why no store of this size is made, memory aside: `TooMany`, `TooLarge` or `BadSize`, as
-    /// `create` answers them.
+    /// [`Stores::create`] answers them. `None` if none of these holds.
     pub fn create_refusal(&self, size: i32) -> Option<StoreError>
         ensures first { result ≡ create_refusal size self.now }
         ensures few { IfNone result (is_full self.now ≡ false) }
@@ -260,7 +264,7 @@ impl<A: Allocator> Stores<A> {
     }
 
     /// Why the store doesn't get this size, memory aside: `NoStore`, `TooLarge` or `Shrinks`, as
-    /// `resize` answers them.
+    /// [`Stores::resize`] answers them. `None` if none of these holds.
     pub fn resize_refusal(&self, store: StoreNo, size: i32) -> Option<StoreError>
         ensures { result ≡ resize_refusal store size self.now }
     {
@@ -270,7 +274,8 @@ impl<A: Allocator> Stores<A> {
         size_refusal(self.total, self.held[place].size(), size)
     }
 
-    /// Whether one more use can be counted: the store is live and has fewer than 4,294,967,295.
+    /// Whether one more use can be counted: the store is live and has fewer than 4,294,967,295
+    /// uses.
     pub fn can_hold(&self, store: StoreNo) -> bool
         ensures { result ≡ can_hold store self.now }
     {
@@ -281,6 +286,7 @@ impl<A: Allocator> Stores<A> {
     }
 
     /// Counts one more use. The answer is false if the store isn't live or has 4,294,967,295 uses.
+    /// Nothing changes then.
     pub fn hold(&mut self, store: StoreNo) -> bool
         ensures allowed { result ≡ can_hold store self.old }
         ensures counted { self.new ≡ (if result then used store self.old else self.old) }
@@ -296,8 +302,8 @@ impl<A: Allocator> Stores<A> {
         true
     }
 
-    /// Counts one use less; without uses the store goes. The answer is false if the store isn't
-    /// live.
+    /// Counts one use less. A store without uses goes. The answer is false if the store isn't live.
+    /// Nothing changes then.
     pub fn let_go(&mut self, store: StoreNo) -> bool
         ensures live { result ≡ is_some (store_at store self.old) }
         ensures counted { self.new ≡ (if result then let_go store self.old else self.old) }
@@ -315,10 +321,11 @@ impl<A: Allocator> Stores<A> {
         true
     }
 
-    /// Lends the store's bytes as the content of a surface. `transform` is the protocol's number.
-    /// `scale` is how many points of the buffer make one of the surface, in each direction.
+    /// Lends the store's bytes as the content of a surface. `transform` is its number in
+    /// wl_output.transform. So many points of the buffer as `scale` says, in each direction, make
+    /// one of the surface.
     ///
-    /// `None` if the store isn't live or the layout passes its end.
+    /// `None` if the store isn't live, or the layout passes its end.
     pub fn picture(
         &self,
         store: StoreNo,
@@ -338,7 +345,7 @@ impl<A: Allocator> Stores<A> {
         self.picture_turned(store, layout, turned, Scale { number: scale })
     }
 
-    /// The same, with this transform and scale.
+    /// Does the same as [`Stores::picture`], with a transform and a scale in their own types.
     pub fn picture_turned(
         &self,
         store: StoreNo,
@@ -372,7 +379,8 @@ impl<A: Allocator + Copy> Stores<A> {
         }
     }
 
-    /// Makes a store of `size` zeros with one use.
+    /// Makes a store of `size` zeros with one use (wayland.xml, wl_shm.create_pool). The size is in
+    /// bytes.
     ///
     /// # Errors
     ///
@@ -395,7 +403,7 @@ impl<A: Allocator + Copy> Stores<A> {
         self.make(size.unsigned_abs())
     }
 
-    /// Makes a store, for which there is room.
+    /// Makes a store for which there is room.
     fn make(&mut self, size: u32) -> Result<StoreNo, StoreError>
         requires few { is_full self.old ≡ false }
         requires room { total_size self.old + size ≤ MAX_TOTAL }
@@ -415,12 +423,12 @@ impl<A: Allocator + Copy> Stores<A> {
         Ok(made)
     }
 
-    /// Puts zeros at the end of the store, up to `size` bytes.
+    /// Puts zeros at the end of the store, up to `size` bytes (wayland.xml, wl_shm_pool.resize).
     ///
     /// # Errors
     ///
     /// The first of these; nothing changes then:
-    /// - `NoStore`;
+    /// - `NoStore`, if the store isn't live;
     /// - `TooLarge`, if all stores would have more than 268,435,456 bytes;
     /// - `Shrinks`, if the store has more;
     /// - `Memory`.

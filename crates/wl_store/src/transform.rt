@@ -15,8 +15,7 @@ pub enum Transform {
     Flipped270,
 }
 
-/// Where the shown point of the buffer moves, from each point of the surface to the next one on its
-/// right.
+/// Where the shown point of the buffer goes, as one goes along a row of the surface to the right.
 #[derive(Clone, Copy, Debug, PartialEq, Eq)]
 pub(crate) enum Course {
     Right,
@@ -26,7 +25,7 @@ pub(crate) enum Course {
 }
 
 impl Transform {
-    /// The transform of this number, as the protocol counts them.
+    /// The transform of this number in wl_output.transform.
     pub fn from_number(number: u32) -> Transform
         requires { number < 8 }
         ensures { result ≡ transform_of number }
@@ -43,7 +42,7 @@ impl Transform {
         }
     }
 
-    /// Whether it exchanges width and height.
+    /// Whether it exchanges width and height: it turns by a quarter.
     pub fn is_turned(self) -> bool
         ensures { result ≡ is_turned self }
     {
@@ -60,7 +59,7 @@ impl Transform {
     }
 
     /// The point of the buffer that the point (i, j) of a surface shows. The surface is `width` by
-    /// `height`, and isn't scaled.
+    /// `height` points, and isn't scaled.
     pub(crate) fn buffer_point(self, width: u32, height: u32, i: u32, j: u32) -> (u32, u32)
         requires column { i < width }
         requires row { j < height }

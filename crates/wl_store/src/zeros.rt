@@ -4,7 +4,7 @@ use std::alloc::{AllocError, Allocator};
 use std::marker::Model;
 use std::mem;
 
-/// The zeros that blank stores lend: one run, of which each lends the first ones.
+/// The zeros that blank stores lend: one run, from whose front each lends as many as it needs.
 #[derive(Drop)]
 pub(crate) struct Zeros<A: Allocator> {
     bytes: Vec<u8, A>,
@@ -30,14 +30,14 @@ impl<A: Allocator> Zeros<A> {
         }
     }
 
-    /// How many there are.
+    /// How many zeros there are.
     pub(crate) fn count(&self) -> usize
         ensures { result ≡ self.now }
     {
         self.bytes.len()
     }
 
-    /// The first so many.
+    /// Lends the first `count` zeros.
     pub(crate) fn first(&self, count: u32) -> &[u8]
         requires { count ≤ self.now }
         ensures { result.now ≡ replicate count 0 }
@@ -45,7 +45,7 @@ impl<A: Allocator> Zeros<A> {
         &self.bytes[..count as usize]
     }
 
-    /// Adds some, up to this count, where there are fewer.
+    /// Adds zeros up to this count, if there are fewer. An error leaves them as they were.
     pub(crate) fn grow_to(&mut self, count: u32) -> Result<(), AllocError>
         ensures ok { OnOk result (self.new ≡ max self.old count) }
         ensures err { OnErr result (self.new ≡ self.old) }
@@ -57,7 +57,7 @@ impl<A: Allocator> Zeros<A> {
         self.bytes.resize(count, 0)
     }
 
-    /// Puts them into an empty Vec, and takes its room.
+    /// Puts the zeros into an empty Vec, and takes its room.
     pub(crate) fn exchange(&mut self, room: &mut Vec<u8, A>)
         requires { room.old.items ≡ [] }
         ensures given { room.new.items ≡ replicate self.old 0 }
@@ -66,7 +66,7 @@ impl<A: Allocator> Zeros<A> {
         mem::swap(&mut self.bytes, room);
     }
 
-    /// Frees them, and the room for them.
+    /// Frees the zeros, and the room for them.
     pub(crate) fn release(&mut self)
         ensures { self.new ≡ 0 }
     {

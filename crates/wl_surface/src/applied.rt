@@ -1,4 +1,4 @@
-//! What a call changes of what surfaces show.
+//! What a call tells of the surfaces that it changes.
 
 ghost use Rattle.wl_surface.specs.Kept.{StandsFor};
 ghost use Rattle.wl_surface.specs.Surface.{Surface as Asked, applying};
@@ -10,11 +10,14 @@ use crate::states::SurfaceNo;
 use std::alloc::Allocator;
 use wl_geom::Rect;
 
-/// What a call changed: the surfaces that it applied or took away, the buffers that aren't busy any
-/// more (wayland.xml, wl_buffer.release), and the callbacks that go with a surface. `shown` are the
-/// buffers that its surfaces had applied and held before it, as they were attached. Its surfaces
-/// are those that it applied, held or ended. A buffer that was shown more than once is there as
-/// often. Each freed buffer is among them.
+/// What a call tells:
+/// - `changes`: the surfaces that it applied or took away;
+/// - `freed`: the buffers that were busy and aren't any more (wayland.xml, wl_buffer.release);
+/// - `callbacks`: the ids of the callbacks that go with a surface;
+/// - `shown`: the buffers that its surfaces had applied and held before, as they were attached.
+///
+/// Its surfaces are those that it applied, held or ended. A buffer that was shown more than once is
+/// in `shown` as often. Each freed buffer is in it.
 #[derive(Drop)]
 pub struct Applied<A: Allocator> {
     pub changes: Vec<Change<A>, A>,
@@ -24,8 +27,9 @@ pub struct Applied<A: Allocator> {
 }
 
 /// A surface whose state was applied, or which is gone and showed a buffer. `rects` is the damage
-/// that was applied, the buffer's too, in surface pixels and not cut to the surface. More than
-/// 1,024 rectangles damage all of it (wayland.xml, wl_surface.damage, damage_buffer).
+/// that was applied, of the surface and of its buffer. It is in surface pixels, and may pass the
+/// surface's edges. More than 1,024 rectangles damage all of it (wayland.xml, wl_surface.damage,
+/// damage_buffer).
 #[derive(Drop)]
 pub struct Change<A: Allocator> {
     pub surface: SurfaceNo,

@@ -1,4 +1,4 @@
-//! Commits, the modes of links and their ends, and the trees that these apply.
+//! Commits, modes and ends of links, and the trees that they apply.
 
 ghost use Rattle.std.specs.Prelude.{ℕ, [], ◌≡◌, ◌==◌, ◌&&◌, not, cond, Bool, List, None, Err, count_by, filter, map, IfErr, IfOk, MatchBool, OnErr, OnOk};
 ghost use Rattle.wl_links.specs.Family.{HangTogether, links_in, parents_of, stacks_in};
@@ -24,8 +24,8 @@ use crate::surfaces::Surfaces;
 use crate::tree::{add_freed, apply_each, below, shown_of};
 use std::alloc::{AllocError, Allocator};
 
-/// What is found before a tree is applied, while nothing has changed yet: its surfaces, the buffers
-/// that these show, and room for what is told.
+/// What a call finds before it applies a tree, while nothing has changed yet: the surfaces, the
+/// buffers that they show, and room for what is told.
 #[derive(Drop)]
 pub(crate) struct Room<A: Allocator> {
     pub(crate) below: Vec<SurfaceNo, A>,
@@ -36,12 +36,12 @@ pub(crate) struct Room<A: Allocator> {
 
 impl<A: Allocator + Copy> Surfaces<A> {
     /// wl_surface.commit: the pending state becomes the held one. Unless the surface behaves
-    /// synchronised, it is applied with its descendants. The answer is what that changes, and which
-    /// buffers were shown before.
+    /// synchronised, it is applied with its descendants (wayland.xml, wl_subsurface). The answer is
+    /// what that changes, and which buffers were shown before.
     ///
     /// # Errors
     ///
-    /// `Size` if the sides of the buffer that it would show are no multiples of the scale, else
+    /// `Size` if the sides of the pending buffer are no multiples of the pending scale. Else
     /// `Memory`. Nothing changes then.
     pub fn commit(&mut self, surface: SurfaceNo) -> Result<Applied<A>, SurfaceError>
         ensures ok { OnOk result ((all : Asked) → Stand self.old.states self.old.family all → Stand self.new.states self.new.family (committed_in surface all)) }
@@ -66,7 +66,7 @@ impl<A: Allocator + Copy> Surfaces<A> {
         self.commit_now(surface)
     }
 
-    /// A commit of a surface that behaves synchronised.
+    /// Commits a surface that behaves synchronised: its state is held.
     fn hold(&mut self, surface: SurfaceNo) -> Result<Applied<A>, SurfaceError>
         ensures ok { OnOk result ((all : Asked) → Stand self.old.states self.old.family all → Stand self.new.states self.new.family (with_change surface (asking Commit) all)) }
         ensures waits { OnOk result ((all : Asked) (cs : List Callback) → Stand self.old.states self.old.family all → AreWaiting self.old.states.frames (numbered all) cs
@@ -94,7 +94,7 @@ impl<A: Allocator + Copy> Surfaces<A> {
         })
     }
 
-    /// A commit of a surface that doesn't.
+    /// Commits a surface that doesn't: its state is applied, and its tree's.
     fn commit_now(&mut self, surface: SurfaceNo) -> Result<Applied<A>, SurfaceError>
         ensures ok { OnOk result ((all : Asked) → Stand self.old.states self.old.family all
             → Stand self.new.states self.new.family (applied_tree levels surface (with_change surface (asking Commit) all))) }
@@ -118,8 +118,12 @@ impl<A: Allocator + Copy> Surfaces<A> {
     }
 
     /// wl_subsurface.set_desync: the child's commits are applied at once, unless a surface above it
-    /// is synchronised. If it behaved synchronised and doesn't any more, its held state is applied.
-    /// Without a link nothing changes and nothing is told. Without memory nothing changes.
+    /// is synchronised. If the child behaved synchronised and doesn't any more, its held state is
+    /// applied. Without a link nothing changes and nothing is told.
+    ///
+    /// # Errors
+    ///
+    /// `Memory`. Nothing changes then.
     pub fn set_desync(&mut self, child: SurfaceNo) -> Result<Applied<A>, SurfaceError>
         ensures ok { OnOk result ((all : Asked) (number : ℕ) (link : Link) → IsLink all number child link → Stand self.old.states self.old.family all
             → Stand self.new.states self.new.family (desynchronised_in number all)) }
@@ -152,8 +156,11 @@ impl<A: Allocator + Copy> Surfaces<A> {
     }
 
     /// wl_subsurface.destroy: the link of the child ends, and the child is applied with its
-    /// descendants. Without a link nothing changes and nothing is told. Without memory nothing
-    /// changes.
+    /// descendants. Without a link nothing changes and nothing is told.
+    ///
+    /// # Errors
+    ///
+    /// `Memory`. Nothing changes then.
     pub fn remove_subsurface(&mut self, child: SurfaceNo) -> Result<Applied<A>, SurfaceError>
         ensures ok { OnOk result ((all : Asked) (number : ℕ) (link : Link) → IsLink all number child link → Stand self.old.states self.old.family all
             → Stand self.new.states self.new.family (ended_in all link)) }
@@ -180,8 +187,12 @@ impl<A: Allocator + Copy> Surfaces<A> {
         Ok(self.apply_tree(room))
     }
 
-    /// wl_surface.destroy: the surface is gone with its frame requests. Its links end, to its
-    /// parent and to its children, and its descendants are applied. Without memory nothing changes.
+    /// wl_surface.destroy: the surface goes with its frame requests. Its links end, to its parent
+    /// and to its children. Its descendants are applied.
+    ///
+    /// # Errors
+    ///
+    /// `Memory`. Nothing changes then.
     pub fn destroy(&mut self, surface: SurfaceNo) -> Result<Applied<A>, SurfaceError>
         ensures ok { OnOk result ((all : Asked) → Stand self.old.states self.old.family all → Stand self.new.states self.new.family (destroyed_in surface all)) }
         ensures waits { OnOk result ((all : Asked) (cs : List Callback) → Stand self.old.states self.old.family all → AreWaiting self.old.states.frames (numbered all) cs
@@ -235,7 +246,7 @@ impl<A: Allocator + Copy> Surfaces<A> {
         }
     }
 
-    /// What changes when a surface goes: it shows no buffer any more.
+    /// What a surface that goes changes: it shows no buffer any more.
     fn own_end(&self, surface: SurfaceNo) -> Result<Vec<Change<A>, A>, AllocError>
         ensures { IfOk result (λ changes. (all : Numbered) → StandForAll self.now.states all → AreGone surface (all surface) changes.items) }
     {
@@ -249,7 +260,7 @@ impl<A: Allocator + Copy> Surfaces<A> {
         Ok(changes)
     }
 
-    /// Room for what applying the surface and its descendants changes, behind what is told before.
+    /// Makes room to tell of the surface and its descendants, behind what was told before.
     fn room(&self, surface: SurfaceNo, told: Vec<Change<A>, A>) -> Result<Room<A>, AllocError>
         ensures those { IfOk result (λ room. (number : ℕ) → is_among room.below.items number ≡ is_under 16 (parents_of (links_in self.now.family)) surface number) }
         ensures once { IfOk result (λ room. AreOnce room.below.items) }

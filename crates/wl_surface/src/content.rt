@@ -6,15 +6,15 @@ ghost use Rattle.wl_surface.specs.Kept.{IsFarther};
 
 use wl_store::{Layout, StoreNo};
 
-/// A buffer's number among its client's. No other buffer that is pending, held, applied or named by
-/// a wl_buffer has it.
+/// A buffer's number among its client's. No other buffer has it that is pending, held, applied or
+/// named by a wl_buffer.
 pub type BufferNo = u64;
 
-/// How far a surface may be from where it began, to each side, in pixels.
+/// How far a surface may move from where it began, to each side, in its own pixels.
 const BOUND: i64 = 16_777_216;
 
-/// A wl_buffer as it is attached: its number, the id that it was made with, its store, and where it
-/// lies in that.
+/// A wl_buffer as it is attached (wayland.xml, wl_surface.attach): its number, the id that it was
+/// made with, its store, and where it lies in that store.
 #[derive(Clone, Copy, Debug)]
 pub struct Attached {
     pub number: BufferNo,
@@ -23,14 +23,15 @@ pub struct Attached {
     pub layout: Layout,
 }
 
-/// How far a surface has moved from its place, in pixels to the right and down.
+/// How far a surface has moved from where it began, in its own pixels to the right and down
+/// (wayland.xml, wl_surface.attach).
 #[derive(Clone, Copy, Debug, PartialEq, Eq)]
 pub struct Offset {
     pub x: i32,
     pub y: i32,
 }
 
-/// A place, in pixels, held within -16,777,216 to 16,777,216: a farther one is at the nearest
+/// A place, in pixels, held within -16,777,216 to 16,777,216. A farther one becomes the nearest
 /// bound.
 pub fn held(place: i64) -> i32
     ensures { result ≡ within_bounds place }
@@ -52,7 +53,7 @@ pub fn bounded_sum(a: i32, b: i32) -> i32
 }
 
 impl Offset {
-    /// The offset this much farther, held within the bounds.
+    /// The offset with this one added, held within the bounds.
     pub(crate) fn farther(self, by: Option<Offset>) -> Offset
         ensures { IsFarther self by result }
     {

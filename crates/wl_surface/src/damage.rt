@@ -8,7 +8,7 @@ ghost use Rattle.wl_store.specs.Transform.{buffer_point, is_turned};
 use wl_geom::Rect;
 use wl_store::Transform;
 
-/// This many numbers from the first on, along one side of a surface.
+/// `count` numbers from `first` on, along one side of a surface.
 #[derive(Clone, Copy)]
 struct Span {
     first: u32,
@@ -30,7 +30,7 @@ impl Span {
     }
 }
 
-/// The place, held to 0 to the limit.
+/// The place, held within 0 to the limit.
 fn held_to(limit: u64, place: i64) -> u64
     ensures held { result ≤ limit }
     ensures below { place ≤ℤ pos 0 → result ≡ 0 }
@@ -43,8 +43,8 @@ fn held_to(limit: u64, place: i64) -> u64
     limit.min(place as u64)
 }
 
-/// Which blocks of `scale` points each, `side` of them in a row, have a point among the `len` ones
-/// from `start` on.
+/// The blocks that have one of the `len` points from `start` on. A block has `scale` points, and
+/// `side` blocks stand in a row.
 fn block_span(start: i32, len: i32, side: u32, scale: u32) -> Span
     requires { 1 ≤ scale }
     ensures within { result.first + result.count ≤ side }
@@ -92,8 +92,8 @@ fn turned(transform: Transform, w: u32, h: u32) -> (u32, u32)
     }
 }
 
-/// Blocks of a buffer, by their columns and rows in it, as points of the surface of `w` by `h` that
-/// shows it.
+/// The points of a surface of `w` by `h` that show these blocks of its buffer. A block is given by
+/// its column and row in the buffer.
 fn shown_at(across: Span, down: Span, transform: Transform, w: u32, h: u32) -> Rect
     requires across { across.first + across.count ≤ cond (is_turned transform) h w }
     requires down { down.first + down.count ≤ cond (is_turned transform) w h }
@@ -114,8 +114,8 @@ fn shown_at(across: Span, down: Span, transform: Transform, w: u32, h: u32) -> R
     }
 }
 
-/// A rectangle of points of a buffer, as points of the surface of `w` by `h` that shows it
-/// (wayland.xml, wl_surface.damage_buffer, set_buffer_scale). Each of those is a block of `scale`
+/// The points of a surface of `w` by `h` that a rectangle of points of its buffer damages
+/// (wayland.xml, wl_surface.damage_buffer, set_buffer_scale). Each point shows a block of `scale`
 /// by `scale` points of the buffer. It is damaged if its block has a point in the rectangle.
 pub(crate) fn on_surface(rect: Rect, transform: Transform, scale: u32, w: u32, h: u32) -> Rect
     requires scale { 1 ≤ scale }

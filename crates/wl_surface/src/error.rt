@@ -13,19 +13,19 @@ pub enum SurfaceError {
     /// The parent is the surface, or descends from it.
     #[error("the parent descends from the surface")]
     BadParent = 2,
-    /// The surface to be placed next to is neither the parent nor another child of it.
+    /// The other surface is neither the parent nor a sibling.
     #[error("no parent and no sibling")]
     NotSibling = 3,
-    /// There would be more than 16 levels below a root.
+    /// More than 16 levels would stand below a root.
     #[error("too many levels of subsurfaces")]
     TooDeep = 4,
     /// There are 256 surfaces.
     #[error("too many surfaces")]
     TooMany = 5,
-    /// The transform isn't one of 0 to 7.
+    /// The transform is none of 0 to 7.
     #[error("no such transform")]
     Transform = 6,
-    /// There is no memory for it.
+    /// Memory ran out.
     #[error("out of memory")]
     Memory = 7,
     /// The scale is below 1.

@@ -7,9 +7,8 @@ ghost use Rattle.wl_surface.specs.Waiting.{applied_by, callbacks_of as those_of,
 use crate::states::SurfaceNo;
 use std::alloc::{AllocError, Allocator};
 
-/// A callback that waits (wayland.xml, wl_surface.frame): the surface that it was requested of, and
-/// its id. A later commit of its surface makes it held, and it is applied once the surface is
-/// applied after that.
+/// A callback that waits (wayland.xml, wl_surface.frame): its surface, and its id. The next commit
+/// of the surface makes it held. It becomes applied when the surface is applied after that.
 #[derive(Clone, Copy)]
 pub(crate) struct Waiting {
     pub(crate) surface: SurfaceNo,
@@ -44,7 +43,7 @@ impl Waiting {
     }
 }
 
-/// A commit of the surface holds its requests.
+/// Makes the surface's requests held, at its commit.
 pub(crate) fn hold_all(frames: &mut [Waiting], surface: SurfaceNo)
     ensures { frames.new ≡ map (held_by surface) frames.old }
 {
@@ -53,7 +52,7 @@ pub(crate) fn hold_all(frames: &mut [Waiting], surface: SurfaceNo)
     }
 }
 
-/// Once the surface is applied, so are its requests that are held.
+/// Makes the surface's held requests applied, as the surface is.
 pub(crate) fn apply_all(frames: &mut [Waiting], surface: SurfaceNo)
     ensures { frames.new ≡ map (applied_by surface) frames.old }
 {
@@ -79,7 +78,7 @@ pub(crate) fn callbacks_of<A: Allocator>(
     Ok(callbacks)
 }
 
-/// The place of the applied one that was requested first.
+/// The place of the first request that is applied.
 pub(crate) fn next_place(frames: &[Waiting]) -> Option<usize>
     ensures { result ≡ position (λ (w : Waiting). w.is_applied) frames.now }
 {

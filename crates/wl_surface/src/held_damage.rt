@@ -12,12 +12,12 @@ use std::alloc::{AllocError, Allocator};
 use std::mem;
 use wl_geom::Rect;
 
-/// How many rectangles of each kind are kept: more than 1,024 of both damage the whole surface.
+/// How many rectangles of each kind are kept. More than 1,024 of both damage the whole surface.
 pub(crate) const MAX_KEPT: usize = 1025;
 
-/// The held damage of a surface: rectangles of its points, and rectangles of points of its buffer.
-/// The first list has room for the second, so telling both as rectangles of the surface takes no
-/// memory.
+/// The held damage of a surface: rectangles of its points, and rectangles of its buffer's points.
+/// The first list has room for the second. So it takes no memory to tell both as rectangles of the
+/// surface.
 #[derive(Drop)]
 pub(crate) struct HeldDamage<A: Allocator> {
     pub(crate) rects: Vec<Rect, A>,
@@ -57,7 +57,7 @@ impl<A: Allocator + Copy> HeldDamage<A> {
 }
 
 impl<A: Allocator> HeldDamage<A> {
-    /// Holds these rectangles after those held: of each kind the first 1,025 are kept. Without
+    /// Holds these rectangles behind those held, and keeps the first 1,025 of each kind. Without
     /// memory nothing changes.
     pub(crate) fn add(
         &mut self,
@@ -85,8 +85,8 @@ impl<A: Allocator> HeldDamage<A> {
         Ok(())
     }
 
-    /// Takes out all that is held, as rectangles of the surface of this shape: those of the
-    /// surface, and then those of the buffer.
+    /// Takes out all that is held, as rectangles of the surface of this shape. The surface's own
+    /// come first, then those of the buffer.
     pub(crate) fn take(&mut self, shape: Shape, alloc: A) -> Vec<Rect, A>
         ensures count { length result.items ≡ length self.old.rects.items + length self.old.buffer_rects.items }
         ensures points { (x y : ℕ) → x < shape.w → y < shape.h → list_any (in_rect (pos x) (pos y)) result.items

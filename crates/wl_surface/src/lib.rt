@@ -2,8 +2,8 @@
 //! and wl_subsurface). Begin with [`Surfaces`], then [`SurfaceStates`], each surface by itself.
 //! Where windows stand on the output is left to wl_scene, and what a client is told to wl_requests.
 //!
-//! It keeps what was asked of each surface, pending, held and applied. It says what a commit, a
-//! mode or the end of a link applies over whole trees.
+//! It keeps what a client asked of each surface: pending, held and applied. It says what a commit,
+//! a mode or the end of a link applies over whole trees.
 #![tactic(auto)]
 
 ghost use Rattle.wl_surface.specs.StateLaws.{CommitTakesAll};
@@ -33,8 +33,8 @@ pub use states::{MAX_SURFACES, SurfaceNo, SurfaceStates};
 pub use surfaces::Surfaces;
 pub use wl_links::Side;
 
-/// After a commit the held state is what was pending, and once the surface is applied that is the
-/// applied state.
+/// A commit makes the pending state the held one, and applying a surface makes that the applied
+/// one.
 pub fn commit_takes_all()
     ensures { CommitTakesAll }
 {}

@@ -1,4 +1,4 @@
-//! What is asked of one surface by itself, and what is read of one (wayland.xml, wl_surface).
+//! What a client asks of one surface by itself, and what is read of one (wayland.xml, wl_surface).
 
 ghost use Rattle.std.specs.Prelude.{ℕ, [], ◌≡◌, ◌≢◌, ◌+◌, ◌<◌, ◌↔◌, List, map, Option, Some, None, IfOk, OnOk, OnErr, IfErr, IfNone, IfSome, IsErr, IsOk, MatchBool, OnSome, if◌then◌else◌, is_some, ◌++◌, ◌∷◌, nat_le, length, unsigned_abs, option_copied, true, false};
 ghost use Rattle.std.specs.Option.{option_map};
@@ -25,12 +25,12 @@ use wl_geom::{Rect, Region};
 use wl_links::{Link, Placed};
 
 impl<A: Allocator + Copy> Surfaces<A> {
-    /// wl_compositor.create_surface: a surface of which nothing was asked, under a number that no
-    /// other has. It has no links.
+    /// wl_compositor.create_surface: makes a surface of which nothing was asked, without links. No
+    /// other has its number.
     ///
     /// # Errors
     ///
-    /// `TooMany` where there are 256 surfaces, and else `Memory`. Nothing changes then.
+    /// `TooMany` if there are 256 surfaces, else `Memory`. Nothing changes then.
     pub fn create(&mut self) -> Result<SurfaceNo, SurfaceError>
         ensures ok { IfOk result (λ number. (all : Numbered) (id : ℕ) → StandForAll self.old.states all
             → (all number ≡ None) × StandForAll self.new.states (with_at number (Some (new_surface id)) all)) }
@@ -53,8 +53,8 @@ impl<A: Allocator + Copy> Surfaces<A> {
         self.states.len()
     }
 
-    /// wl_surface.set_opaque_region of a copy of the region, in surface pixels, or of none: then no
-    /// point is said to be opaque.
+    /// wl_surface.set_opaque_region of a copy of the region, in surface pixels. Without a region no
+    /// point is said to be opaque. It is pending until the next commit.
     ///
     /// # Errors
     ///
@@ -76,8 +76,8 @@ impl<A: Allocator + Copy> Surfaces<A> {
         self.states.set_opaque(surface, region)
     }
 
-    /// wl_surface.set_input_region of a copy of the region, in surface pixels, or of none: then
-    /// each point takes input.
+    /// wl_surface.set_input_region of a copy of the region, in surface pixels. Without a region
+    /// each point takes input. It is pending until the next commit.
     ///
     /// # Errors
     ///
@@ -101,8 +101,8 @@ impl<A: Allocator + Copy> Surfaces<A> {
 }
 
 impl<A: Allocator> Surfaces<A> {
-    /// wl_surface.attach of a buffer, or of none, at this offset in pixels. It is pending until the
-    /// next commit.
+    /// wl_surface.attach of a buffer, or of none. The surface moves by `x` and `y`, in its own
+    /// pixels to the right and down. It is pending until the next commit.
     pub fn attach(&mut self, surface: SurfaceNo, buffer: Option<Attached>, x: i32, y: i32)
         ensures changes { Changes self.old.states self.new.states surface (asking (Attach (option_map buffer_of buffer) x y)) }
         ensures stand { (all : Asked) → Stand self.old.states self.old.family all
@@ -113,7 +113,7 @@ impl<A: Allocator> Surfaces<A> {
         self.states.attach(surface, buffer, x, y);
     }
 
-    /// wl_surface.damage of a rectangle in surface pixels.
+    /// wl_surface.damage of a rectangle in surface pixels. It is pending until the next commit.
     ///
     /// # Errors
     ///
@@ -130,7 +130,8 @@ impl<A: Allocator> Surfaces<A> {
         self.states.damage(surface, rect)
     }
 
-    /// wl_surface.damage_buffer of a rectangle in pixels of the buffer.
+    /// wl_surface.damage_buffer of a rectangle in pixels of the buffer. It is pending until the
+    /// next commit.
     ///
     /// # Errors
     ///
@@ -147,7 +148,7 @@ impl<A: Allocator> Surfaces<A> {
         self.states.damage_buffer(surface, rect)
     }
 
-    /// wl_surface.frame: a callback that waits until a commit applies it and a frame is shown.
+    /// wl_surface.frame: a callback waits until a commit applies it and a frame is shown.
     ///
     /// # Errors
     ///
@@ -168,11 +169,12 @@ impl<A: Allocator> Surfaces<A> {
         self.states.frame(surface, callback)
     }
 
-    /// wl_surface.set_buffer_transform to one of the eight transforms.
+    /// wl_surface.set_buffer_transform, by the number in wl_output.transform. It is pending until
+    /// the next commit.
     ///
     /// # Errors
     ///
-    /// `Transform` for any other number than 0 to 7. Nothing changes then.
+    /// `Transform` if the number is none of 0 to 7. Nothing changes then.
     pub fn set_transform(&mut self, surface: SurfaceNo, transform: i32) -> Result<(), SurfaceError>
         ensures ok { OnOk result (Changes self.old.states self.new.states surface (asking (SetBufferTransform (unsigned_abs transform)))) }
         ensures stand { OnOk result ((all : Asked) → Stand self.old.states self.old.family all
@@ -186,12 +188,12 @@ impl<A: Allocator> Surfaces<A> {
         self.states.set_transform(surface, transform)
     }
 
-    /// wl_surface.set_buffer_scale: so many pixels of the buffer, to the right and down, are one of
-    /// the surface.
+    /// wl_surface.set_buffer_scale: `scale` pixels of the buffer, in each direction, make one of
+    /// the surface. It is pending until the next commit.
     ///
     /// # Errors
     ///
-    /// `Scale` for a number below 1. Nothing changes then.
+    /// `Scale` if the number is below 1. Nothing changes then.
     pub fn set_scale(&mut self, surface: SurfaceNo, scale: i32) -> Result<(), SurfaceError>
         ensures ok { OnOk result (Changes self.old.states self.new.states surface (asking (SetBufferScale (unsigned_abs scale)))) }
         ensures stand { OnOk result ((all : Asked) → Stand self.old.states self.old.family all
@@ -205,11 +207,11 @@ impl<A: Allocator> Surfaces<A> {
         self.states.set_scale(surface, scale)
     }
 
-    /// Gives a surface its role, for life.
+    /// Gives a surface its role, for life (wayland.xml, wl_surface).
     ///
     /// # Errors
     ///
-    /// `Role` exactly where it has another one. Nothing changes then.
+    /// `Role` exactly if it has another one. Nothing changes then.
     pub fn give_role(&mut self, surface: SurfaceNo, role: Role) -> Result<(), SurfaceError>
         ensures ok { OnOk result (Changes self.old.states self.new.states surface (with_role role)) }
         ensures stand { OnOk result ((all : Asked) → Stand self.old.states self.old.family all
@@ -224,8 +226,8 @@ impl<A: Allocator> Surfaces<A> {
         self.states.give_role(surface, role)
     }
 
-    /// Takes out the applied callback that was requested first, if there is one: it is answered at
-    /// the next frame that is shown (wayland.xml, wl_surface.frame).
+    /// Takes out the callback that is answered at the next shown frame: of those applied, the first
+    /// that was requested (wayland.xml, wl_surface.frame). `None` if none is applied.
     pub fn next_frame(&mut self) -> Option<u32>
         ensures next { result ≡ next_of self.old.states.frames }
         ensures frames { self.new.states.frames ≡ without_next self.old.states.frames }
@@ -238,7 +240,7 @@ impl<A: Allocator> Surfaces<A> {
         self.states.next_frame()
     }
 
-    /// What counts of a surface, if there is such a one.
+    /// The applied state of a surface. `None` if there is no surface of this number.
     pub fn current(&self, surface: SurfaceNo) -> Option<Current<'_, A>>
         ensures stands { (all : Numbered) → StandForAll self.now.states all → IsCurrentAt result (all surface) }
         ensures kept { option_map counting_in result ≡ option_map counting_of (kept_at self.now.states surface) }
@@ -246,15 +248,15 @@ impl<A: Allocator> Surfaces<A> {
         self.states.current(surface)
     }
 
-    /// The buffer that the next commit would show.
+    /// The buffer that the next commit would show, if it has one.
     pub fn pending_buffer(&self, surface: SurfaceNo) -> Option<Attached>
         ensures { (all : Numbered) → StandForAll self.now.states all → option_map buffer_of result ≡ pending_at (all surface) }
     {
         self.states.pending_buffer(surface)
     }
 
-    /// Whether the sides of the buffer that the next commit would show are multiples of the scale
-    /// that it would have. They are without a buffer, and where there is no surface of this number.
+    /// Whether the sides of the pending buffer are multiples of the pending scale (wayland.xml,
+    /// wl_surface.error, invalid_size). It is true without a buffer, and without a surface.
     pub fn is_whole(&self, surface: SurfaceNo) -> bool
         ensures { (all : Numbered) → StandForAll self.now.states all → result ≡ is_whole_at (all surface) }
     {
@@ -275,8 +277,8 @@ impl<A: Allocator> Surfaces<A> {
         self.states.has_content(surface)
     }
 
-    /// Whether a surface has the buffer held or applied: it is busy, and its client may not write
-    /// to it (wayland.xml, wl_buffer.release).
+    /// Whether a surface has the buffer held or applied. It is busy then, and its client may not
+    /// write to it (wayland.xml, wl_buffer.release).
     pub fn is_busy(&self, buffer: BufferNo) -> bool
         ensures { (all : Numbered) → StandForAll self.now.states all → IsAny (shows_at buffer) all result }
     {
@@ -297,22 +299,22 @@ impl<A: Allocator> Surfaces<A> {
         self.states.role(surface)
     }
 
-    /// What is kept of each surface by itself.
+    /// What is kept of each surface by itself, to read.
     pub fn states(&self) -> &SurfaceStates<A>
         ensures { result.now ≡ self.now.states }
     {
         &self.states
     }
 
-    /// The living link of a child. `None` where it has none.
+    /// The living link of a child. `None` if it has none.
     pub fn link(&self, child: SurfaceNo) -> Option<Link>
         ensures { result ≡ links_in self.now.family child }
     {
         self.family.link(child)
     }
 
-    /// Whether there would be more than 16 levels below a root, were the child below the parent
-    /// with its tree (wl_subcompositor.get_subsurface).
+    /// Whether more than 16 levels would stand below a root, were the child below the parent with
+    /// its tree (wayland.xml, wl_subcompositor.get_subsurface).
     pub fn is_too_deep(&self, child: SurfaceNo, parent: SurfaceNo) -> bool
         ensures deep { IsTooDeep child parent (links_in self.now.family) result }
         ensures stand { HangTogether self.now.family }
@@ -327,16 +329,15 @@ impl<A: Allocator> Surfaces<A> {
         self.family.is_under(top, surface)
     }
 
-    /// Whether a surface behaves synchronised: it is a subsurface, and it or one of those above it
-    /// is synchronised.
+    /// Whether a surface behaves synchronised: it is a subsurface, and it or one above it is
+    /// synchronised (wayland.xml, wl_subsurface).
     pub(crate) fn behaves_synchronised(&self, surface: SurfaceNo) -> bool
         ensures { result ≡ behaves_synchronised 17 (links_in self.now.family) surface }
     {
         self.family.behaves_synchronised(surface)
     }
 
-    /// The root of a surface's tree: the surface that is reached by going from child to parent
-    /// until there is no link.
+    /// The root of a surface's tree: one goes from child to parent until there is no link.
     pub fn root(&self, surface: SurfaceNo) -> SurfaceNo
         ensures root { result ≡ root_by 16 (parents_of (links_in self.now.family)) surface }
         ensures none { links_in self.now.family result ≡ None }
@@ -344,8 +345,8 @@ impl<A: Allocator> Surfaces<A> {
         self.family.root(surface)
     }
 
-    /// The stack of a surface and its children from below, as applied. It is the whole stack, or
-    /// nothing, which stands for a surface without children. No others stand in it than children
+    /// The applied stack of a surface and its children, from the lowest up. It is empty for a
+    /// surface without children, and whole for any other. Besides the surface it has only children
     /// whose links live.
     pub fn stack(&self, surface: SurfaceNo) -> &[Placed]
         ensures stack { whole result.now ≡ (stacks_in self.now.family surface).applied }

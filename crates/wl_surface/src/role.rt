@@ -1,6 +1,6 @@
 //! What a surface is for.
 
-/// The role of a surface. It is for life: the same one may be given again (wayland.xml,
+/// The role of a surface, which it has for life. It may be given the same one again (wayland.xml,
 /// wl_surface).
 #[derive(Clone, Copy, Debug, PartialEq, Eq)]
 pub enum Role {

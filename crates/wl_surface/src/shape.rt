@@ -7,8 +7,8 @@ ghost use Rattle.wl_surface.specs.Kept.{buffer_of, turned_height, turned_width};
 use crate::content::Attached;
 use wl_store::{Scale, Transform};
 
-/// How a surface shows its buffer: its transform, its scale, and how large it is then, in its own
-/// points. Each of its points is a block of `scale` by `scale` points of the buffer.
+/// How a surface shows its buffer: its transform, its scale, and its size in its own points. Each
+/// point shows a block of `scale` by `scale` points of the buffer.
 #[derive(Clone, Copy)]
 pub(crate) struct Shape {
     pub(crate) transform: Transform,

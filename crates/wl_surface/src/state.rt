@@ -1,4 +1,4 @@
-//! One surface: what is pending, held and applied of it.
+//! One surface: its pending, held and applied state.
 
 ghost use Rattle.std.specs.Prelude.{ℕ, ◌≡◌, ◌↔◌, ◌≢◌, ◌||◌, is_some, MatchBool, false, ◌++◌, ◌∷◌, [], Some, None, List, OnOk, OnErr, take};
 ghost use Rattle.std.specs.Option.{option_map, option_or};
@@ -19,8 +19,8 @@ use wl_geom::{Rect, Region};
 use wl_store::{Scale, Transform};
 
 /// A surface's state in three records: pending, held and applied. A region that wasn't set since is
-/// that of the record below, so a commit moves regions and takes no memory. Contracts see it as the
-/// values that it keeps.
+/// that of the record below. So a commit moves regions, and takes no memory for them. Contracts see
+/// the values that it keeps.
 #[derive(Drop)]
 pub struct SurfaceState<A: Allocator> {
     pending_buffer: Option<Attached>,
@@ -80,11 +80,12 @@ impl<A: Allocator> Model for SurfaceState<A> {
     } };
 }
 
-/// The applied state of a surface: the buffer as it is attached, how far the surface has moved, and
-/// its size in its own pixels. The size is the sides of the buffer divided by the scale, and
-/// exchanged if the transform turns it; without a buffer it is none.
+/// The applied state of a surface: its buffer as it was attached, how far it has moved, and its
+/// size in its own pixels. The size is that of the buffer divided by the scale, and exchanged if
+/// the transform turns it. Without a buffer it is 0.
 ///
-/// It also has which points are opaque, and which take input: all, if no region says it.
+/// `opaque` has the points that are opaque. `input` has those that take input: all of them without
+/// a region.
 #[derive(Drop)]
 pub struct Current<'a, A: Allocator> {
     pub buffer: Option<Attached>,
@@ -162,8 +163,8 @@ impl<A: Allocator> SurfaceState<A> {
         self.pending_scale = scale;
     }
 
-    /// wl_surface.damage, of a rectangle of the surface's points. Of each kind 1,025 rectangles are
-    /// kept, since more than 1,024 of both damage the whole surface. Without memory nothing
+    /// wl_surface.damage of a rectangle of the surface's points. It keeps 1,025 rectangles of each
+    /// kind, since more than 1,024 of both damage the whole surface. Without memory nothing
     /// changes.
     pub fn damage(&mut self, rect: Rect) -> Result<(), AllocError>
         ensures ok { OnOk result ((s : Asked) → StandsFor self.old s → StandsFor self.new (asking (Damage rect) s)) }
@@ -175,7 +176,7 @@ impl<A: Allocator> SurfaceState<A> {
         Ok(())
     }
 
-    /// wl_surface.damage_buffer, of a rectangle of the buffer's points. As many are kept as of the
+    /// wl_surface.damage_buffer of a rectangle of the buffer's points. It keeps as many as of the
     /// surface's. Without memory nothing changes.
     pub fn damage_buffer(&mut self, rect: Rect) -> Result<(), AllocError>
         ensures ok { OnOk result ((s : Asked) → StandsFor self.old s → StandsFor self.new (asking (DamageBuffer rect) s)) }
@@ -218,7 +219,7 @@ impl<A: Allocator> SurfaceState<A> {
         self.pending_input = Some(None);
     }
 
-    /// The pending damage becomes held. Without memory nothing changes.
+    /// Makes the pending damage held. Without memory nothing changes.
     fn hold_damage(&mut self) -> Result<(), AllocError>
         ensures ok { OnOk result (self.new ≡ record self.old { held_damage = take 1025 (self.old.held_damage ++ self.old.pending_damage); pending_damage = []; held_buffer_damage = take 1025 (self.old.held_buffer_damage ++ self.old.pending_buffer_damage); pending_buffer_damage = [] }) }
         ensures err { OnErr result (self.new ≡ self.old) }
@@ -227,7 +228,7 @@ impl<A: Allocator> SurfaceState<A> {
             .add(&mut self.pending_damage, &mut self.pending_buffer_damage)
     }
 
-    /// The pending regions become held.
+    /// Makes the pending regions held.
     fn hold_regions(&mut self)
         ensures { self.new ≡ record self.old { held_opaque = option_or self.old.pending_opaque self.old.held_opaque; pending_opaque = None; held_input = option_or self.old.pending_input self.old.held_input; pending_input = None } }
     {
@@ -235,7 +236,7 @@ impl<A: Allocator> SurfaceState<A> {
         self.held_input = self.pending_input.take().or(self.held_input.take());
     }
 
-    /// The pending buffer, transform, scale and offset become held.
+    /// Makes the pending buffer, transform, scale and offset held.
     fn hold_content(&mut self)
         ensures content { self.new ≡ record self.old { held_buffer = self.old.pending_buffer; held_transform = self.old.pending_transform; held_scale = self.old.pending_scale; pending_offset = None; held_offset = self.new.held_offset } }
         ensures offset { IsFarther self.old.held_offset self.old.pending_offset self.new.held_offset }
@@ -257,7 +258,7 @@ impl<A: Allocator> SurfaceState<A> {
         Ok(())
     }
 
-    /// The held opaque region is applied, if it was set.
+    /// Applies the held opaque region, if it was set.
     fn apply_opaque(&mut self)
         ensures { self.new ≡ record self.old { current_opaque = latest self.old.held_opaque self.old.current_opaque; held_opaque = None } }
     {
@@ -266,7 +267,7 @@ impl<A: Allocator> SurfaceState<A> {
         }
     }
 
-    /// The held input region is applied, if it was set.
+    /// Applies the held input region, if it was set.
     fn apply_input(&mut self)
         ensures { self.new ≡ record self.old { current_input = latest self.old.held_input self.old.current_input; held_input = None } }
     {
@@ -276,7 +277,7 @@ impl<A: Allocator> SurfaceState<A> {
     }
 
     /// Applies the held state. The answer is the held damage, as rectangles of the surface at its
-    /// new size; more than 1,024 damage all of it. It takes no memory.
+    /// new size. More than 1,024 damage all of it. It takes no memory.
     pub fn apply(&mut self, alloc: A) -> Vec<Rect, A>
         ensures stands { (s : Asked) → StandsFor self.old s → StandsFor self.new (applying s) }
         ensures damage { (s : Asked) → StandsFor self.old s
@@ -293,7 +294,7 @@ impl<A: Allocator> SurfaceState<A> {
         damage
     }
 
-    /// Gives the role, for life, unless the surface has another one; then nothing changes. The
+    /// Gives the role, for life, unless the surface has another one. Nothing changes then. The
     /// answer is whether it has this role now.
     pub fn give_role(&mut self, role: Role) -> bool
         ensures given { MatchBool result (self.new ≡ record self.old { role = Some role }) (self.new ≡ self.old) }
@@ -351,8 +352,8 @@ impl<A: Allocator> SurfaceState<A> {
         self.pending_buffer
     }
 
-    /// Whether the sides of the pending buffer are multiples of the pending scale. Without a buffer
-    /// they are.
+    /// Whether the sides of the pending buffer are multiples of the pending scale. It is true
+    /// without a buffer.
     pub fn is_whole(&self) -> bool
         ensures { (s : Asked) → StandsFor self.now s → result ≡ is_whole (pending s.history).buffer (pending s.history).scale }
     {

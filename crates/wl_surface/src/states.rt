@@ -30,8 +30,8 @@ pub type SurfaceNo = usize;
 /// How many surfaces a client may have.
 pub const MAX_SURFACES: usize = 256;
 
-/// The surfaces of a client by their numbers, and the frame requests that wait, in the order of the
-/// requests. Contracts see what is kept of each.
+/// The surfaces of a client by their numbers, and the frame requests that wait, in their order.
+/// Contracts see what is kept of each.
 #[derive(Drop)]
 pub struct SurfaceStates<A: Allocator> {
     slots: Slab<SurfaceState<A>, A>,
@@ -71,7 +71,7 @@ fn any_has<A: Allocator>(slots: &Slab<SurfaceState<A>, A>, buffer: BufferNo) -> 
     false
 }
 
-/// A copy of the region, as it is set.
+/// Copies a region that is set.
 fn copy_of<A: Allocator + Copy>(region: &Region<A>) -> Result<Region<A>, SurfaceError>
     ensures ok { IfOk result (λ copy. copy ≡ region.now) }
     ensures err { IfErr result (λ e. e ≡ SurfaceError.Memory) }
@@ -103,8 +103,8 @@ impl<A: Allocator + Copy> SurfaceStates<A> {
         self.slots.len()
     }
 
-    /// wl_compositor.create_surface: a surface of which nothing was asked, under a number that no
-    /// other has. A client may have 256 surfaces. On an error nothing changes.
+    /// wl_compositor.create_surface: makes a surface of which nothing was asked. No other has its
+    /// number. A client may have 256 surfaces. An error changes nothing.
     pub(crate) fn create(&mut self) -> Result<SurfaceNo, SurfaceError>
         ensures ok { IfOk result (λ number. (all : Numbered) (id : ℕ) → StandForAll self.old all
             → (all number ≡ None) × StandForAll self.new (with_at number (Some (new_surface id)) all)) }
@@ -122,7 +122,7 @@ impl<A: Allocator + Copy> SurfaceStates<A> {
         Ok(number)
     }
 
-    /// wl_surface.set_opaque_region of a copy of the region, in surface pixels, or of none: then no
+    /// wl_surface.set_opaque_region of a copy of the region, in surface pixels. Without a region no
     /// point is said to be opaque. Without memory nothing changes.
     pub(crate) fn set_opaque(
         &mut self,
@@ -141,7 +141,7 @@ impl<A: Allocator + Copy> SurfaceStates<A> {
         Ok(())
     }
 
-    /// wl_surface.set_input_region of a copy of the region, in surface pixels, or of none: then
+    /// wl_surface.set_input_region of a copy of the region, in surface pixels. Without a region
     /// each point takes input. Without memory nothing changes.
     pub(crate) fn set_input(
         &mut self,
@@ -160,8 +160,8 @@ impl<A: Allocator + Copy> SurfaceStates<A> {
         Ok(())
     }
 
-    /// Applies the surface: its held state becomes the applied one, its frame requests too. The
-    /// answer is what that changes; `None` if there is no surface of this number.
+    /// Applies the surface and its frame requests: what was held is applied. The answer is what
+    /// that changes. `None` if there is no surface of this number.
     pub(crate) fn apply(&mut self, surface: SurfaceNo) -> Option<Change<A>>
         ensures stand { Changes self.old self.new surface applying }
         ensures frames { self.new.frames ≡ map (applied_by surface) self.old.frames }
@@ -177,8 +177,8 @@ impl<A: Allocator + Copy> SurfaceStates<A> {
         }
     }
 
-    /// wl_surface.destroy: the surface is gone, and its frame requests with it. The answer is their
-    /// callbacks. Nothing changes if there is no surface of this number, nor without memory.
+    /// wl_surface.destroy: the surface goes with its frame requests. The answer is their callbacks.
+    /// Nothing changes if there is no surface of this number, nor without memory.
     pub(crate) fn destroy(&mut self, surface: SurfaceNo) -> Result<Vec<u32, A>, SurfaceError>
         ensures ok { OnOk result ((all : Numbered) → StandForAll self.old all → StandForAll self.new (with_at surface None all)) }
         ensures count { OnOk result (count self.new + one_if_kept (kept_at self.old surface) ≡ count self.old) }
@@ -207,8 +207,8 @@ impl<A: Allocator + Copy> SurfaceStates<A> {
 }
 
 impl<A: Allocator> SurfaceStates<A> {
-    /// wl_surface.frame: a callback that waits until a commit applies it and a frame is shown.
-    /// Without memory nothing changes.
+    /// wl_surface.frame: a callback waits until a commit applies it and a frame is shown. Without
+    /// memory nothing changes.
     pub(crate) fn frame(&mut self, surface: SurfaceNo, callback: u32) -> Result<(), SurfaceError>
         ensures ok { OnOk result ((n : ℕ) → Changes self.old self.new surface (asking (Frame n))) }
         ensures frames { OnOk result (self.new.frames ≡ (if is_some (kept_at self.old surface) then self.old.frames ++ record { surface = surface; callback = callback; is_held = false; is_applied = false } ∷ [] else self.old.frames)) }
@@ -229,9 +229,8 @@ impl<A: Allocator> SurfaceStates<A> {
         Ok(())
     }
 
-    /// wl_surface.commit: the pending state becomes the held one, the surface's frame requests too.
-    /// It is applied once the surface is: at once, unless it behaves synchronised (wayland.xml,
-    /// wl_subsurface). Without memory nothing changes.
+    /// wl_surface.commit: the pending state becomes the held one, and so do the surface's frame
+    /// requests. They are applied when the surface is. Without memory nothing changes.
     pub(crate) fn hold(&mut self, surface: SurfaceNo) -> Result<(), SurfaceError>
         ensures ok { OnOk result (Changes self.old self.new surface (asking Commit)) }
         ensures frames { OnOk result (self.new.frames ≡ map (held_by surface) self.old.frames) }
@@ -247,8 +246,8 @@ impl<A: Allocator> SurfaceStates<A> {
         Ok(())
     }
 
-    /// Takes out the applied callback that was requested first, if there is one. It is answered at
-    /// the next frame that is shown (wayland.xml, wl_surface.frame).
+    /// Takes out the callback that is answered at the next shown frame: of those applied, the first
+    /// that was requested (wayland.xml, wl_surface.frame). `None` if none is applied.
     pub(crate) fn next_frame(&mut self) -> Option<u32>
         ensures next { result ≡ next_of self.old.frames }
         ensures frames { self.new.frames ≡ without_next self.old.frames }
@@ -263,8 +262,8 @@ impl<A: Allocator> SurfaceStates<A> {
         Some(self.frames.remove(place).callback)
     }
 
-    /// wl_surface.attach of a buffer, or of none, at this offset in pixels. It is pending until the
-    /// next commit.
+    /// wl_surface.attach of a buffer, or of none. The surface moves by `x` and `y`, in its own
+    /// pixels to the right and down. It is pending until the next commit.
     pub(crate) fn attach(&mut self, surface: SurfaceNo, buffer: Option<Attached>, x: i32, y: i32)
         ensures changes { Changes self.old self.new surface (asking (Attach (option_map buffer_of buffer) x y)) }
         ensures frames { self.new.frames ≡ self.old.frames }
@@ -342,8 +341,8 @@ impl<A: Allocator> SurfaceStates<A> {
         }
     }
 
-    /// wl_surface.set_buffer_transform to one of the eight transforms. Any other number is refused
-    /// as `Transform`, and changes nothing.
+    /// wl_surface.set_buffer_transform, by the number in wl_output.transform. `Transform` refuses
+    /// any other than 0 to 7, and nothing changes.
     pub(crate) fn set_transform(
         &mut self,
         surface: SurfaceNo,
@@ -371,8 +370,8 @@ impl<A: Allocator> SurfaceStates<A> {
         }
     }
 
-    /// wl_surface.set_buffer_scale: this many pixels of the buffer, to the right and down, are one
-    /// of the surface. A number below 1 is refused as `Scale`, and changes nothing.
+    /// wl_surface.set_buffer_scale: `scale` pixels of the buffer, in each direction, make one of
+    /// the surface. `Scale` refuses a number below 1, and nothing changes.
     pub(crate) fn set_scale(&mut self, surface: SurfaceNo, scale: i32) -> Result<(), SurfaceError>
         ensures ok { OnOk result (Changes self.old self.new surface (asking (SetBufferScale (unsigned_abs scale)))) }
         ensures frames { self.new.frames ≡ self.old.frames }
@@ -388,8 +387,8 @@ impl<A: Allocator> SurfaceStates<A> {
         Ok(())
     }
 
-    /// Gives a surface its role, for life. It is refused as `Role` exactly if it has another one,
-    /// and nothing changes then.
+    /// Gives a surface its role, for life. `Role` refuses it exactly if it has another one, and
+    /// nothing changes.
     pub(crate) fn give_role(&mut self, surface: SurfaceNo, role: Role) -> Result<(), SurfaceError>
         ensures ok { OnOk result (Changes self.old self.new surface (with_role role)) }
         ensures frames { self.new.frames ≡ self.old.frames }
@@ -420,7 +419,7 @@ impl<A: Allocator> SurfaceStates<A> {
         any_has(&self.slots, buffer)
     }
 
-    /// The buffer that the next commit would show.
+    /// The buffer that the next commit would show, if it has one.
     pub fn pending_buffer(&self, surface: SurfaceNo) -> Option<Attached>
         ensures { (all : Numbered) → StandForAll self.now all → option_map buffer_of result ≡ pending_at (all surface) }
     {
@@ -430,8 +429,8 @@ impl<A: Allocator> SurfaceStates<A> {
         }
     }
 
-    /// Whether the sides of the buffer that the next commit would show are multiples of the scale
-    /// that it would have. They are without a buffer, and if there is no surface of this number.
+    /// Whether the sides of the pending buffer are multiples of the pending scale (wayland.xml,
+    /// wl_surface.error, invalid_size). It is true without a buffer, and without a surface.
     pub fn is_whole(&self, surface: SurfaceNo) -> bool
         ensures { (all : Numbered) → StandForAll self.now all → result ≡ is_whole_at (all surface) }
     {
@@ -470,7 +469,7 @@ impl<A: Allocator> SurfaceStates<A> {
         self.frames.retain(|waiting| waiting.surface != surface);
     }
 
-    /// The applied state of a surface, if there is one of this number.
+    /// The applied state of a surface. `None` if there is no surface of this number.
     pub fn current(&self, surface: SurfaceNo) -> Option<Current<'_, A>>
         ensures stands { (all : Numbered) → StandForAll self.now all → IsCurrentAt result (all surface) }
         ensures kept { option_map counting_in result ≡ option_map counting_of (kept_at self.now surface) }

@@ -17,8 +17,7 @@ use std::alloc::Allocator;
 use std::marker::Model;
 use wl_links::{Family, PlaceError, Side};
 
-/// The surfaces of a client, and how they hang together: what is kept of each by itself, and of the
-/// links between them.
+/// The surfaces of a client: what is kept of each by itself, and of the links between them.
 #[derive(Drop)]
 pub struct Surfaces<A: Allocator> {
     pub(crate) states: SurfaceStates<A>,
@@ -34,7 +33,7 @@ impl<A: Allocator> Model for Surfaces<A> {
     ghost view = { λ surfaces. record { states = surfaces.states; family = surfaces.family } };
 }
 
-/// Why a child isn't placed, among the errors of surfaces.
+/// Why a child isn't placed, as an error of surfaces.
 fn place_error(error: PlaceError) -> SurfaceError
     ensures { result ≡ surface_error error }
 {
@@ -67,16 +66,20 @@ impl<A: Allocator + Copy> Surfaces<A> {
         }
     }
 
-    /// wl_subcompositor.get_subsurface: a link from a child to its parent. The child is a
-    /// subsurface from now on, synchronised at first, and topmost, at (0, 0), once the parent is
-    /// committed and applied.
+    /// wl_subcompositor.get_subsurface: links a child to its parent. The child is a subsurface from
+    /// now on, and synchronised at first. Once the parent is committed and applied, it is topmost,
+    /// at (0, 0).
     ///
     /// # Errors
     ///
-    /// In this order: `TooDeep` where there would be more than 16 levels below a root, `Role` where
-    /// the child has another role or a link that lives, `BadParent` where the parent is the child
-    /// or descends from it, `Memory`. The first three change nothing. Without memory the surfaces,
-    /// links and stacks are the same; a place for either surface may stay in the family.
+    /// The first of these:
+    /// - `TooDeep`, if more than 16 levels would stand below a root;
+    /// - `Role`, if the child has another role, or a link that lives;
+    /// - `BadParent`, if the parent is the child or descends from it;
+    /// - `Memory`.
+    ///
+    /// The first three change nothing. Without memory the surfaces, links and stacks are the same.
+    /// A place for either surface may stay in the family.
     pub fn subsurface(&mut self, child: SurfaceNo, parent: SurfaceNo) -> Result<(), SurfaceError>
         ensures ok { OnOk result ((all : Asked) (number : ℕ) → Stand self.old.states self.old.family all → link_at number all ≡ None
             → is_some (surface_at child all) ≡ true → is_some (surface_at parent all) ≡ true
@@ -111,8 +114,12 @@ impl<A: Allocator + Copy> Surfaces<A> {
     }
 
     /// wl_subsurface.set_position: sets the place of the child's upper left corner, in pixels right
-    /// and down from the parent's. It counts once the parent is committed and applied. Nothing
-    /// changes without a link, nor without memory.
+    /// and down from the parent's. It counts once the parent is committed and applied. Without a
+    /// link nothing changes.
+    ///
+    /// # Errors
+    ///
+    /// `Memory`. Nothing changes then.
     pub fn set_position(&mut self, child: SurfaceNo, x: i32, y: i32) -> Result<(), SurfaceError>
         ensures ok { OnOk result ((all : Asked) (number : ℕ) (link : Link) → IsLink all number child link → Stand self.old.states self.old.family all
             → Stand self.new.states self.new.family (with_change link.parent (asking (SetPosition number x y)) all)) }
@@ -128,14 +135,14 @@ impl<A: Allocator + Copy> Surfaces<A> {
         Ok(())
     }
 
-    /// wl_subsurface.place_above and place_below: the child stands right above or right below a
+    /// wl_subsurface.place_above and place_below: puts the child right above or right below a
     /// sibling or the parent. It counts once the parent is committed and applied. Without a link
     /// nothing changes.
     ///
     /// # Errors
     ///
-    /// `NotSibling` if the other surface is neither the parent nor another child of it, else
-    /// `Memory`. Neither changes anything.
+    /// `NotSibling` if the other surface is neither the parent nor a sibling, else `Memory`.
+    /// Nothing changes then.
     pub fn place(
         &mut self,
         child: SurfaceNo,
@@ -160,7 +167,7 @@ impl<A: Allocator + Copy> Surfaces<A> {
         }
     }
 
-    /// wl_subsurface.place_above: [`Surfaces::place`] right above the sibling.
+    /// wl_subsurface.place_above: [`Surfaces::place`] right above the sibling, with its errors.
     pub fn place_above(&mut self, child: SurfaceNo, sibling: SurfaceNo) -> Result<(), SurfaceError>
         ensures ok { OnOk result ((all : Asked) (number : ℕ) (link : Link) (at : Member) → IsLink all number child link
             → IsKept (kids_of all) at (member_of link.parent sibling) → Stand self.old.states self.old.family all
@@ -174,7 +181,7 @@ impl<A: Allocator + Copy> Surfaces<A> {
         self.place(child, sibling, Side::Above)
     }
 
-    /// wl_subsurface.place_below: [`Surfaces::place`] right below the sibling.
+    /// wl_subsurface.place_below: [`Surfaces::place`] right below the sibling, with its errors.
     pub fn place_below(&mut self, child: SurfaceNo, sibling: SurfaceNo) -> Result<(), SurfaceError>
         ensures ok { OnOk result ((all : Asked) (number : ℕ) (link : Link) (at : Member) → IsLink all number child link
             → IsKept (kids_of all) at (member_of link.parent sibling) → Stand self.old.states self.old.family all

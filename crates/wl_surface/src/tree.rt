@@ -14,7 +14,7 @@ use crate::states::{SurfaceNo, SurfaceStates};
 use std::alloc::{AllocError, Allocator};
 use wl_links::Family;
 
-/// The surface and those that descend from it, by their numbers.
+/// The numbers of the surface and of all that descend from it.
 pub(crate) fn below<A: Allocator + Copy>(
     family: &Family<A>,
     surface: SurfaceNo,
@@ -74,7 +74,7 @@ fn has_number(numbers: &[BufferNo], number: BufferNo) -> bool
     numbers.iter().any(|other| *other == number)
 }
 
-/// Adds those of these buffers that aren't busy, each once. There is room for them.
+/// Adds each of these buffers that isn't busy, once. There is room for them.
 pub(crate) fn add_freed<A: Allocator>(
     surfaces: &SurfaceStates<A>,
     shown: &[Attached],
@@ -94,7 +94,7 @@ pub(crate) fn add_freed<A: Allocator>(
     }
 }
 
-/// Applies these surfaces in turn, and adds what that changes. There is room for it.
+/// Applies these surfaces in turn, and adds what each changes. There is room for that.
 pub(crate) fn apply_each<A: Allocator + Copy>(
     surfaces: &mut SurfaceStates<A>,
     family: &mut Family<A>,
