@@ -1,4 +1,4 @@
--- The numbers of why a recording wasn't played to its end.
+-- The numbers of the errors of a replay.
 use Rattle.std.specs.Prelude.{ℕ}
 use Rattle.wl_recording.specs.declared.error.ReplayError.{ReplayError}
 use Rattle.wl_recording.specs.declared.error.ReplayError.TheVariants.{Read, Write, BadLine, Side, Memory}

@@ -1,4 +1,5 @@
--- What a line of a pointer file asks. Here a line stands without its line feed; words and numbers are those of a recording.
+-- What a line of a pointer file asks. A line is meant without its line feed. Its words and numbers
+-- are as those of a recording.
 use Rattle.std.specs.Prelude.{ℕ, ◌==◌, if◌then◌else◌, unwrap_or, List, length, codes, Option, None}
 use Rattle.std.specs.Option.{option_and_then, option_map}
 use Rattle.std.specs.Str.{bytes_eq}
@@ -6,17 +7,17 @@ use Rattle.wl_recording.specs.Line.{after_three, after_word, first_word, is_blan
 use Rattle.wl_recording.specs.declared.pointer.PointerLine.{PointerLine}
 use Rattle.wl_recording.specs.declared.pointer.PointerLine.TheVariants.{Motion, Button, Skip, Bad}
 
--- a motion by its words: the time, and the two coordinates
+-- a motion, by its words: the time, and the two coordinates
 abbrev pub motion_by : List ℕ → List ℕ → List ℕ → Option PointerLine
 motion_by time x y =
     option_and_then (λ t. option_and_then (λ a. option_map (λ b. Motion t a b) (signed_of y)) (signed_of x)) (number_of time)
 
--- a button by its words: the time, the button's number, and whether it is pressed
+-- a press or a release, by its words: the time, the button's number, and whether it is pressed
 abbrev pub button_by : List ℕ → List ℕ → List ℕ → Option PointerLine
 button_by time code pressed =
     option_and_then (λ t. option_and_then (λ c. option_map (λ p. Button t c p) (pressed_of pressed)) (number_of code)) (number_of time)
 
--- whose three words are the only ones of a text
+-- the motion whose three words are the only ones of a text
 abbrev pub motion_in : List ℕ → Option PointerLine
 motion_in text =
     if is_blank (after_three text) then motion_by (first_word text) (first_word (after_word text))
@@ -29,7 +30,7 @@ button_in text =
     (first_word (after_word (after_word text)))
     else None
 
--- a line by its first word and what follows it
+-- what a line asks, by its first word and what follows it
 abbrev pub pointer_with : List ℕ → List ℕ → PointerLine
 pointer_with word rest =
     if length word == 0 then Skip
@@ -37,7 +38,7 @@ pointer_with word rest =
     else if bytes_eq word (codes "button") then unwrap_or (button_in rest) Bad
     else Bad
 
--- `motion T X Y`, `button T CODE 0` and `button T CODE 1` ask that. A comment or a line without words asks nothing, and every
--- other line is bad.
+-- What a line asks: `motion T X Y`, `button T CODE 0` or `button T CODE 1`. A comment and a line
+-- without words ask nothing. Any other line is bad.
 abbrev pub pointer_by : List ℕ → PointerLine
 pointer_by text = if is_comment text then Skip else pointer_with (first_word text) (after_word text)

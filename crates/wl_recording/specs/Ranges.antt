@@ -6,47 +6,48 @@ use Rattle.std.specs.Option.{option_and_then, option_map, some_prefix}
 use Rattle.wl_recording.specs.Line.{number_of}
 use Rattle.wl_recording.specs.declared.range.StoreRange.{StoreRange}
 
--- a byte before the first of these lines, if there is one
+-- these lines, with one more byte at the front of the first, if there is one
 abbrev pub with_byte : ℕ → List (List ℕ) → List (List ℕ)
 with_byte b [] = []
 with_byte b (line ∷ lines) = (b ∷ line) ∷ lines
 
--- the lines of a text that end with a line feed, without it
+-- the lines of a text that end with a line feed, each without it
 abbrev pub lines_of : List ℕ → List (List ℕ)
 lines_of [] = []
 lines_of (b ∷ text) = if b == 10 then [] ∷ lines_of text else with_byte b (lines_of text)
 
--- what stands before the first space of a line, and behind it
+-- what stands before the first space of a line, and what behind it
 abbrev pub before_space : List ℕ → List ℕ
 before_space line = take_while (λ b. not (b == 32)) line
 
 abbrev pub behind_space : List ℕ → List ℕ
 behind_space line = drop (1 + prefix_len (λ b. not (b == 32)) line) line
 
--- a range by its four numbers
+-- a range, by its four numbers
 abbrev pub range_by : Option ℕ → Option ℕ → Option ℕ → Option ℕ → Option StoreRange
 range_by store at len from =
     option_and_then (λ k. option_and_then (λ a. option_and_then (λ l. option_map (λ f. record { store = k; at = a; len = l; from = f })
     from) len) at) store
 
--- A line that names a range has four numbers, with one space between: the store, the byte that the range begins at, how many bytes it has,
--- and the byte of the file that they come from.
+-- The range that a line names by four numbers, with one space between. They are the store, the byte
+-- at which the range begins, how many bytes it has, and the byte of the file that they come from.
 abbrev pub range_in : List ℕ → Option StoreRange
 range_in line =
     range_by (number_of (before_space line)) (number_of (before_space (behind_space line)))
     (number_of (before_space (behind_space (behind_space line)))) (number_of (behind_space (behind_space (behind_space line))))
 
--- A range rises behind the one before: it is of a later store, or begins at a later byte of the same.
+-- A range rises behind the one before if it is of a later store, or begins at a later byte of the
+-- same.
 abbrev pub rises : Option StoreRange → StoreRange → Bool
 rises None range = true
 rises (Some before) range = nat_lt before.store range.store || (before.store == range.store && nat_lt before.at range.at)
 
--- those of these ranges up to the first that doesn't rise
+-- these ranges, up to the first that doesn't rise
 abbrev pub rising : Option StoreRange → List StoreRange → List StoreRange
 rising before [] = []
 rising before (range ∷ ranges) = if rises before range then range ∷ rising (Some range) ranges else []
 
--- The ranges that lines name, behind one before: up to the first line that names none, or of which the range doesn't rise.
+-- the ranges that lines name, up to the first line that names none, or whose range doesn't rise
 abbrev pub ranges_in : Option StoreRange → List (List ℕ) → List StoreRange
 ranges_in before lines = rising before (some_prefix (map range_in lines))
 

@@ -1,16 +1,16 @@
 -- Side files, as a replay meets them.
 use Rattle.std.specs.Prelude.{◌≡◌, ◌<◌, ◌-◌, ◌^◌, ◌⊎◌, ℕ, Bool, false, List, Result, MatchResult}
 
--- the count rose, or stands at its greatest value
+-- The count rose, or has its greatest value.
 abbrev pub Rose : ℕ → ℕ → Type 0
 Rose old new = (old < new) ⊎ (new ≡ 2 ^ 64 - 1)
 
--- a fault is answered only where the count rose, and nothing else changes the count
+-- A fault is answered only if the count rose. Nothing else changes the count.
 abbrev pub CountsFault : {T E : Type 0} → ℕ → ℕ → Result T E → Type 0
 CountsFault old new r = MatchResult r (λ _. new ≡ old) (λ _. Rose old new)
 
--- which answers an open of a name may give, to read from a byte on, and which bytes a read, from one state of the files to
--- the next, and how many faults a state has counted
+-- What side files may do from one state to the next: what an `open` of a name, from a byte on,
+-- answers, and which bytes a read gives. It also has how many faults a state has counted.
 pub record Files (S : Type 0) : Type 1 where
   pub opens : S → List ℕ → ℕ → Bool → S → Type 0
   pub gives : S → List ℕ → S → Type 0

@@ -17,11 +17,11 @@ none_line client = codes "none " ++ decimal client ++ codes "\n"
 abbrev pub nostore_line : ℕ → ℕ → List ℕ
 nostore_line client store = codes "nostore " ++ decimal client ++ codes " " ++ decimal store ++ codes "\n"
 
--- a place outside the store
+-- the place is outside the store
 abbrev pub outside_line : ℕ → ℕ → List ℕ
 outside_line client store = codes "outside " ++ decimal client ++ codes " " ++ decimal store ++ codes "\n"
 
--- when, and how many pixels are damaged
+-- a frame was shown, at this time and with so many damaged pixels
 abbrev pub frame_line : ℕ → ℕ → List ℕ
 frame_line time count = codes "frame " ++ decimal time ++ codes " " ++ decimal count ++ codes "\n"
 

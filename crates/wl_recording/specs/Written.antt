@@ -7,15 +7,15 @@ use Rattle.wl_recording.specs.Lines.{InLine}
 use Rattle.wl_recording.specs.Text.{hex_of}
 use Rattle.wl_recording.specs.declared.place.Place.{Place}
 
--- 1 where a button is pressed
+-- 1 if a button is pressed, else 0
 abbrev pub digit_of : Bool → ℕ
 digit_of pressed = if pressed then 1 else 0
 
--- a client, a store of its, and a byte there
+-- a place: the client, the store, and the byte
 abbrev pub place_text : Place → List ℕ
 place_text place = decimal place.client ++ codes " " ++ decimal place.store ++ codes " " ++ decimal place.at
 
--- what asks this, without a line feed
+-- the text that asks this, without a line feed
 abbrev pub text_of : Asked → List ℕ
 text_of Connect = codes "connect"
 text_of (Bytes client piece) = codes "bytes " ++ decimal client ++ codes " " ++ hex_of piece
@@ -31,7 +31,7 @@ text_of Nothing = []
 abbrev pub line_of : Asked → List ℕ
 line_of asked = text_of asked ++ codes "\n"
 
--- the last line of a recording that has as many as one may have
+-- the last line of a recording with as many as one may have
 abbrev pub last_line : List ℕ
 last_line = codes "# the recording ends here: it has as many lines as a recording may have\n"
 
@@ -47,11 +47,11 @@ abbrev pub IsCoordinate : ℤ → Type 0
 IsCoordinate (pos n) = n < 2 ^ 31
 IsCoordinate (negsuc n) = n < 2 ^ 31
 
--- bytes of one line: some, and at most `limit`
+-- the bytes of one line: at least one, and at most `limit`
 abbrev pub IsPiece : ℕ → List ℕ → Type 0
 IsPiece limit bytes = (0 < length bytes) × (length bytes ≤ limit) × All (λ b. b < 256) bytes
 
--- a line with at most `limit` bytes beside can ask this
+-- A line that spells at most `limit` bytes can ask this.
 abbrev pub Fits : ℕ → Asked → Type 0
 Fits limit Connect = ⊤
 Fits limit (Bytes client piece) = IsNumber client × IsPiece limit piece
@@ -63,12 +63,13 @@ Fits limit (Button time code pressed) = IsNumber time × IsNumber code
 Fits limit (Tick time) = IsNumber time
 Fits limit Nothing = ⊤
 
--- What was written is one line, of at most `limit` bytes without its line feed, and asks just this.
+-- The text that was written is one line of at most `limit` bytes, without its line feed, and asks
+-- just this.
 pub record IsReadAs (limit : ℕ) (asked : Asked) : Type 0 where
   pub one : All InLine (text_of asked)
   pub short : length (text_of asked) ≤ limit
   pub asks : asked_by (text_of asked) ≡ Some asked
 
--- A line is read as what it was written of.
+-- A line is read as what it was written from.
 abbrev pub WrittenIsRead : ℕ → ℕ → Type 0
 WrittenIsRead piece line = (asked : Asked) → Fits piece asked → IsReadAs line asked

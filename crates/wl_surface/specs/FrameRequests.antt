@@ -3,7 +3,7 @@ use Rattle.std.specs.Prelude.{ℕ, Option, Some, None, List, [], ◌∷◌, flat
 use Rattle.wl_surface.specs.Request.{Request, Frame}
 use Rattle.wl_surface.specs.State.{History}
 
--- those in a surface's list, in their order
+-- the frame requests in a surface's list, in their order
 abbrev pub frames_of : List Request → List ℕ
 frames_of requests = flat_map (λ request. frame_of request) requests
   where

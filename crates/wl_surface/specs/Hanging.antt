@@ -1,5 +1,5 @@
--- When what is kept of how the surfaces of a client hang together stands for what was asked of them, surfaces being named by their numbers
--- (wayland.xml, wl_subcompositor and wl_subsurface).
+-- When what is kept of how a client's surfaces hang together stands for what was asked of them
+-- (wayland.xml, wl_subcompositor and wl_subsurface). Surfaces go by their numbers.
 use Rattle.std.specs.Prelude.{ℕ, ℤ, pos, ◌≡◌, ◌≤◌, ◌==◌, ◌&&◌, not, Bool, true, false, cond, take, Option, Some, None, List, [], ◌∷◌}
 use Rattle.std.specs.List.{list_any}
 use Rattle.std.specs.Option.{option_map}
@@ -24,7 +24,8 @@ kid_of (Some l) = cond l.has_ended None (Some l.child)
 abbrev pub kids_of : Surfaces → Kids
 kids_of all number = kid_of (link_at number all)
 
--- the stacks that a surface's requests make: of all of them, of those up to the last commit, and of those that count
+-- the stacks that a surface's requests make: all of them, those up to the last commit, and those
+-- that count
 abbrev pub stacks_by : Kids → History → Stacks
 stacks_by kids h =
     record {
@@ -37,7 +38,7 @@ abbrev pub stacks_at : Kids → Option History → Stacks
 stacks_at kids None = childless
 stacks_at kids (Some h) = stacks_by kids h
 
--- what is kept stands for the links that live, and for the stacks that were asked
+-- What is kept stands for the living links, and for the stacks that were asked.
 pub record HangsAs (tied : Tied) (all : Surfaces) : Type 0 where
   pub links : (child : ℕ) → links_in tied child ≡ links_of all child
   pub stacks : (surface : ℕ) → stacks_in tied surface ≡ stacks_at (kids_of all) (history_in surface all)
@@ -47,8 +48,9 @@ abbrev pub AreNumbered : List Link → Type 0
 AreNumbered [] = Unit {0}
 AreNumbered (l ∷ ls) = (list_any (λ k. k.number == l.number) ls ≡ false) × AreNumbered ls
 
--- Links are told apart by number and, while they live, by child; no more counts than was committed; of the links that live a surface's
--- requests name those to its own children alone, and each is named by those of its parent.
+-- The links and the surfaces' requests are as they should be. Links have numbers of their own, and
+-- living ones children of their own. No more counts than was committed. A surface's requests name
+-- living links to its own children alone, and its parent's requests name each.
 pub record AreTied (all : Surfaces) : Type 0 where
   pub once : AreOnceLinked all.links
   pub apart : AreNumbered all.links
@@ -63,7 +65,7 @@ pub record AreTied (all : Surfaces) : Type 0 where
   pub listed : (number : ℕ) (link : Link) → link_at number all ≡ Some link → link.has_ended ≡ false
       → (h : History) × (history_in link.parent all ≡ Some h) × (has_child number h.requests ≡ true)
 
--- both: what is kept stands for what was asked, which is as it should be
+-- What is kept stands for what was asked, and that is as it should be.
 abbrev pub Hang : Tied → Surfaces → Type 0
 Hang tied all = HangsAs tied all × AreTied all
 
@@ -73,19 +75,19 @@ AsksAlone =
     (tied : Tied) (all : Surfaces) (surface : ℕ) (r : Request) → is_about_children r ≡ false → is_commit r ≡ false → Hang tied all
     → Hang tied (with_change surface (asking r) all)
 
--- A commit makes what is pending of the stack held.
+-- A commit makes the pending stack the held one.
 abbrev pub CommitsStack : Type 0
 CommitsStack =
     (old new : Tied) (all : Surfaces) (surface : ℕ) → links_in new ≡ links_in old
     → stacks_in new ≡ changed_at surface committed (stacks_in old) → Hang old all → Hang new (with_change surface (asking Commit) all)
 
--- To apply a surface makes what is held of the stack count.
+-- Applying a surface makes its held stack the applied one.
 abbrev pub AppliesStack : Type 0
 AppliesStack =
     (old new : Tied) (all : Surfaces) (surface : ℕ) → links_in new ≡ links_in old
     → stacks_in new ≡ changed_at surface applied (stacks_in old) → Hang old all → Hang new (with_change surface applying all)
 
--- set_position of a link that lives: the place of the child is another one in what is pending of its parent.
+-- set_position of a living link changes the child's place in its parent's pending stack.
 abbrev pub MovesChild : Type 0
 MovesChild =
     (old new : Tied) (all : Surfaces) (number : ℕ) (link : Link) (x y : ℤ) → link_at number all ≡ Some link → link.has_ended ≡ false
@@ -93,7 +95,8 @@ MovesChild =
     → stacks_in new ≡ at_parent (λ parent. pending_as (moved link.child x y)) (links_in old link.child) (stacks_in old) → Hang old all
     → Hang new (with_change link.parent (asking (SetPosition number x y)) all)
 
--- place_above and place_below of a link that lives, with the parent or another child of it: so is the child placed in what is pending.
+-- place_above and place_below of a living link put the child beside its parent or a sibling in the
+-- pending stack.
 abbrev pub PlacesChild : Type 0
 PlacesChild =
     (side : Side) (old new : Tied) (all : Surfaces) (number : ℕ) (link : Link) (at : Member) (sibling : Kept)
@@ -101,8 +104,8 @@ PlacesChild =
     → stacks_in new ≡ at_parent (λ parent. pending_as (placed (beside side) link.child sibling)) (links_in old link.child) (stacks_in old)
     → Hang new (with_change link.parent (asking (place_request side number at)) all)
 
--- get_subsurface, where the child has no link that lives and the number is new: it is synchronised, and topmost in what is pending of its
--- parent.
+-- get_subsurface makes the child synchronised, and topmost in its parent's pending stack. The child
+-- has no living link, and the number is new.
 abbrev pub JoinsChild : Type 0
 JoinsChild =
     (old new : Tied) (all : Surfaces) (number child parent : ℕ) (h : History) → link_at number all ≡ None → links_in old child ≡ None
@@ -110,50 +113,51 @@ JoinsChild =
     → stacks_in new ≡ changed_at parent (pending_as (added child)) (stacks_in old) → Hang old all
     → Hang new (linked number child parent all)
 
--- The end of a link that lives: the child is in no stack of its parent.
+-- After the end of a living link, the child is in no stack of its parent.
 abbrev pub EndsLink : Type 0
 EndsLink =
     (old new : Tied) (all : Surfaces) (number : ℕ) (link : Link) → link_at number all ≡ Some link → link.has_ended ≡ false
     → links_in new ≡ unlinked link.child (links_in old) → stacks_in new ≡ left link.child (links_in old link.child) (stacks_in old)
     → Hang old all → Hang new (with_link number ending all)
 
--- set_sync and set_desync of a link that lives
+-- set_sync and set_desync change the mode of a living link, and nothing else.
 abbrev pub SetsMode : Type 0
 SetsMode =
     (old new : Tied) (all : Surfaces) (number : ℕ) (link : Link) (synchronised : Bool) → link_at number all ≡ Some link
     → link.has_ended ≡ false → links_in new ≡ changed_at link.child (option_map (in_mode synchronised)) (links_in old)
     → stacks_in new ≡ stacks_in old → Hang old all → Hang new (with_link number (with_mode synchronised) all)
 
--- To apply a surface makes what is held count of its stack, and of the stack of each surface that descends from it.
+-- Applying a surface makes the held stacks of it and of all that descend from it the applied ones.
 abbrev pub AppliesTree : Type 0
 AppliesTree =
     (old new : Tied) (all : Surfaces) (surface : ℕ) → links_in new ≡ links_in old
     → ((n : ℕ) → stacks_in new n ≡ cond (descends_from 16 all surface n) (applied (stacks_in old n)) (stacks_in old n)) → Hang old all
     → Hang new (applied_tree levels surface all)
 
--- A new surface has no link, and no children.
+-- A new surface has no link and no children.
 abbrev pub CreatesSurface : Type 0
 CreatesSurface = (tied : Tied) (all : Surfaces) (id : ℕ) → surface_at id all ≡ None → Hang tied all → Hang tied (with_new id all)
 
--- A surface goes that no link which lives has as its child or parent.
+-- A surface goes that is neither child nor parent by a living link.
 abbrev pub RemovesSurface : Type 0
 RemovesSurface =
     (old new : Tied) (all : Surfaces) (id : ℕ)
     → ((number : ℕ) (link : Link) → link_at number all ≡ Some link → link.has_ended ≡ false → (link.parent == id) ≡ false)
     → links_in new ≡ links_in old → stacks_in new ≡ with_at id childless (stacks_in old) → Hang old all → Hang new (without_surface id all)
 
--- The end of a surface with its links: each surface that descends from it is applied, and no other.
+-- The end of a surface and its links applies each surface that descends from it, and no other.
 abbrev pub EndsLinks : Type 0
 EndsLinks =
     (all : Surfaces) (surface : ℕ) → AreOnceLinked all.links → AreNumbered all.links
     → destroyed_in surface all
     ≡ without_surface surface (record (applied_where (descends_from levels all surface) all) { links = ended_with surface all.links })
 
--- the stacks that are left as a surface goes: none of its own, and it stands in none of its parent's
+-- the stacks that are left after a surface: none of its own, and its parent's without it
 abbrev pub left_without : ℕ → Tied → ℕ → Stacks
 left_without surface tied = with_at surface childless (left surface (links_in tied surface) (stacks_in tied))
 
--- A surface ends with its links: it is gone, and what is held counts of the stack of each other surface that descended from it.
+-- A surface ends with its links. It is gone, and the held stacks of those that descended from it
+-- are the applied ones.
 abbrev pub DestroysSurface : Type 0
 DestroysSurface =
     (old new : Tied) (all : Surfaces) (surface : ℕ) → HangTogether old → links_in new ≡ orphaned surface (links_in old)

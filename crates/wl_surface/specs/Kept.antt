@@ -32,26 +32,26 @@ buffer_of a =
 abbrev pub pair_of : Offset → ℤ × ℤ
 pair_of o = (o.x, o.y)
 
--- an offset, farther by what is pending, if anything is
+-- an offset, with the pending one added, if there is one
 abbrev pub IsFarther : Offset → Option Offset → Offset → Type 0
 IsFarther o None new = new ≡ o
 IsFarther o (Some by) new = (new.x ≡ within_bounds (o.x +ℤ by.x)) × (new.y ≡ within_bounds (o.y +ℤ by.y))
 
--- A region that was set since the layer below, or else that of the layer below.
+-- the region that was set since the record below, or else that one's
 abbrev pub latest : {X : Type 0} → Option X → X → X
 latest None below = below
 latest (Some x) below = x
 
--- an input region stands for one, or for everything
+-- an input region stands for the one that was asked, or for every point
 abbrev pub IsInput : Option Area → Option (List Change) → Type 0
 IsInput None None = Unit {0}
 IsInput (Some area) (Some changes) = Covers area changes
 IsInput None (Some changes) = ⊥
 IsInput (Some area) None = ⊥
 
--- The three records: what is pending, held and applied. A region that wasn't set since is that of
--- the record below. An offset that is pending is that of an attach which no commit followed. Of
--- each kind of damage the first 1,025 rectangles are kept: more than 1,024 of both damage everything.
+-- The three records of a surface: pending, held and applied. A region that wasn't set since is that
+-- of the record below. A pending offset is that of an attach after the last commit. The first 1,025
+-- rectangles of each kind of damage are kept, since more than 1,024 of both damage everything.
 pub record Kept : Type 0 where
   pub pending_buffer : Option Attached
   pub held_buffer : Option Attached
@@ -77,7 +77,7 @@ pub record Kept : Type 0 where
   pub held_buffer_damage : List Rect
   pub role : Option Role
 
--- these are the values
+-- What is kept in one record stands for these values.
 pub record Shows (buffer : Option Attached) (transform : Transform) (scale : Scale) (opaque : Area) (input : Option Area) (v : Values)
     : Type 0 where
   pub buffer_is : option_map buffer_of buffer ≡ v.buffer
@@ -86,7 +86,7 @@ pub record Shows (buffer : Option Attached) (transform : Transform) (scale : Sca
   pub opaque_is : Covers opaque v.opaque
   pub input_is : IsInput input v.input
 
--- a surface has moved so far by these requests
+-- the requests move a surface to this offset
 abbrev pub HasMoved : Offset → List Request → Type 0
 HasMoved o requests = (o.x ≡ (offset requests).x) × (o.y ≡ (offset requests).y)
 
@@ -94,7 +94,7 @@ HasMoved o requests = (o.x ≡ (offset requests).x) × (o.y ≡ (offset requests
 abbrev pub held_list : List Request → List Request
 held_list requests = take (committed requests) requests
 
--- What is kept is right for a surface's requests: for what is pending, for what the last commit held, and for what is applied.
+-- What is kept stands for a surface's requests: for its pending, held and applied state.
 pub record Stands (k : Kept) (h : History) : Type 0 where
   pub pending : Shows k.pending_buffer k.pending_transform k.pending_scale (latest k.pending_opaque (latest k.held_opaque k.current_opaque))
       (latest k.pending_input (latest k.held_input k.current_input)) (pending h)
@@ -111,19 +111,19 @@ pub record Stands (k : Kept) (h : History) : Type 0 where
   pub cut_within : h.cut ≤ committed h.requests
   pub commits_within : committed h.requests ≤ length h.requests
 
--- what is kept stands for a surface: for what was asked of it, and for its role
+-- What is kept stands for a surface: for what was asked of it, and for its role.
 pub record StandsFor (k : Kept) (s : Surface) : Type 0 where
   pub history : Stands k s.history
   pub role : k.role ≡ s.role
 
--- the same of what is kept
+-- the buffer is applied or held, by what is kept
 abbrev pub kept_shows : ℕ → Kept → Bool
 kept_shows buffer k = names buffer (option_map buffer_of k.current_buffer) || names buffer (option_map buffer_of k.held_buffer)
 
 abbrev pub kept_has : ℕ → Kept → Bool
 kept_has buffer k = names buffer (option_map buffer_of k.pending_buffer) || kept_shows buffer k
 
--- the size of what is shown, by the transform itself
+-- the size of a surface in its own points, by the transform itself
 abbrev pub turned_width : Option Buffer → Transform → ℕ → ℕ
 turned_width None transform scale = 0
 turned_width (Some b) transform scale = cond (is_turned transform) (b.height / scale) (b.width / scale)
@@ -132,7 +132,7 @@ abbrev pub turned_height : Option Buffer → Transform → ℕ → ℕ
 turned_height None transform scale = 0
 turned_height (Some b) transform scale = cond (is_turned transform) (b.width / scale) (b.height / scale)
 
--- what is told of a surface is what counts of it
+-- What is told of a surface is what counts of it.
 pub record IsCurrent {A : Type 0} (c : Current A) (h : History) : Type 0 where
   pub buffer : option_map buffer_of c.buffer ≡ (applied h).buffer
   pub width : c.w ≡ width_of (applied h).buffer (applied h).transform (applied h).scale
@@ -143,7 +143,8 @@ pub record IsCurrent {A : Type 0} (c : Current A) (h : History) : Type 0 where
   pub opaque : Covers c.opaque.now (applied h).opaque
   pub input : IsInput (option_copied c.input) (applied h).input
 
--- what is kept that counts: the buffer, the transform and the scale, how far the surface has moved, and its regions
+-- what counts of a surface: the buffer, the transform and the scale, how far it has moved, and its
+-- regions
 pub record Counting : Type 0 where
   pub buffer : Option Attached
   pub transform : Transform
@@ -163,7 +164,7 @@ counting_of k =
       input = k.current_input;
     }
 
--- the same of what is told
+-- the same, of what is told
 abbrev pub counting_in : {A : Type 0} → Current A → Counting
 counting_in c = record {
   buffer = c.buffer;

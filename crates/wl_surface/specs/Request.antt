@@ -4,8 +4,9 @@ use Rattle.wl_geom.specs.declared.rect.Rect.{Rect}
 use Rattle.wl_geom.specs.Region.{Change}
 use Rattle.wl_store.specs.declared.color.Format.{Format}
 
--- A wl_buffer: its number among the client's requests, and the id that it was made with; `height` rows of `width` pixels in this store, the
--- first row at `offset` and each `stride` bytes after the one before (wayland.xml, wl_shm_pool.create_buffer).
+-- A wl_buffer: its number among the client's requests, the id that it was made with, and where it
+-- lies in its store. There are `height` rows of `width` pixels. The first begins at byte `offset`,
+-- and each other one `stride` bytes after the one before (wayland.xml, wl_shm_pool.create_buffer).
 pub record Buffer : Type 0 where
   pub number : ℕ
   pub object : ℕ
@@ -16,15 +17,18 @@ pub record Buffer : Type 0 where
   pub stride : ℕ
   pub format : Format
 
--- who stands in the order of a surface and its children: the surface itself, or the child of a link
+-- who stands in the order of a surface and its children: itself, or the child of a link
 pub data Member : Type 0 where
   Itself : Member
   Child : ℕ → Member
 
--- One accepted request. An attach names the buffer itself, and a region request the list of the region's changes, or none for null. A
--- frame request has its number among the client's requests. Damage is a rectangle of points of the surface, or of its buffer. A link is a
--- wl_subsurface by its number among the client's: what is asked of it stands in its parent's list (wayland.xml, wl_surface, wl_subcompositor.get_subsurface and wl_subsurface; xdg-shell.xml,
--- xdg_surface.set_window_geometry).
+-- One accepted request. An attach names the buffer itself. A region request has the list of the
+-- region's changes, or none for null. A frame request has its number among the client's requests.
+-- Damage is a rectangle of points of the surface, or of its buffer.
+--
+-- A link is a wl_subsurface, by its number among the client's. Its requests stand in the list of
+-- its parent (wayland.xml, wl_surface, wl_subcompositor.get_subsurface and wl_subsurface;
+-- xdg-shell.xml, xdg_surface.set_window_geometry).
 pub data Request : Type 0 where
   Attach : Option Buffer → ℤ → ℤ → Request
   Damage : Rect → Request

@@ -18,16 +18,16 @@ Numbered = ℕ → Option Surface
 abbrev pub nobody : Numbered
 nobody number = None
 
--- another surface, or none, under this number
+-- the surfaces, with this one, or none, under the number
 abbrev pub with_at : ℕ → Option Surface → Numbered → Numbered
 with_at number surface all other = cond (other == number) surface (all other)
 
--- the surface of this number changes, and no other
+-- the surfaces, with the one of this number changed
 abbrev pub changed_at : ℕ → (Surface → Surface) → Numbered → Numbered
 changed_at number change all other = cond (other == number) (option_map change (all other)) (all other)
 
--- What is kept of the surfaces, by numbers from 0 on, and the frame requests that wait, in the order of the requests (wayland.xml,
--- wl_surface.frame).
+-- What is kept of the surfaces, by numbers from 0 on, and the frame requests that wait, in their
+-- order (wayland.xml, wl_surface.frame).
 pub record Slots : Type 0 where
   pub places : List (Option Kept)
   pub frames : List Waiting
@@ -59,26 +59,27 @@ StandsAt (Some k) None = ⊥
 abbrev pub StandForAll : Slots → Numbered → Type 0
 StandForAll slots all = (number : ℕ) → StandsAt (kept_at slots number) (all number)
 
--- From what is kept before to what is kept after, one surface changes: no other does, and none comes or goes.
+-- One surface changes from what is kept before to what is kept after. No other does, and none comes
+-- or goes.
 pub record Changes (old new : Slots) (number : ℕ) (change : Surface → Surface) : Type 0 where
   pub stand : (all : Numbered) → StandForAll old all → StandForAll new (changed_at number change all)
   pub count : count new ≡ count old
 
--- a copy of the region was set, or none
+-- A copy of the region that was asked is set, or none.
 abbrev pub IsCopied : Option Area → Option (List Change) → Type 0
 IsCopied region None = region ≡ None
 IsCopied None (Some changes) = ⊥
 IsCopied (Some area) (Some changes) = Covers area changes
 
--- the eight transforms are 0 to 7 (wayland.xml, wl_output.transform)
+-- the number is one of the eight transforms, 0 to 7 (wayland.xml, wl_output.transform)
 abbrev pub is_transform : ℤ → Bool
 is_transform z = int_le (pos 0) z && int_le z (pos 7)
 
--- a buffer scale is positive (wayland.xml, wl_surface.set_buffer_scale)
+-- the buffer scale is positive (wayland.xml, wl_surface.set_buffer_scale)
 abbrev pub is_scale : ℤ → Bool
 is_scale z = int_le (pos 1) z
 
--- what the layer above reads of a surface, if there is one
+-- the role of a surface, if it is there and has one
 abbrev pub role_at : Option Surface → Option Role
 role_at None = None
 role_at (Some s) = s.role
@@ -87,7 +88,8 @@ abbrev pub pending_at : Option Surface → Option Buffer
 pending_at None = None
 pending_at (Some s) = (pending s.history).buffer
 
--- what the next commit would show is a whole number of its pixels wide and high (wayland.xml, wl_surface.error, invalid_size)
+-- the sides of the pending buffer are multiples of the pending scale (wayland.xml,
+-- wl_surface.error, invalid_size)
 abbrev pub is_whole_at : Option Surface → Bool
 is_whole_at None = true
 is_whole_at (Some s) = is_whole (pending s.history).buffer (pending s.history).scale
@@ -100,7 +102,7 @@ abbrev pub content_at : Option Surface → Bool
 content_at None = false
 content_at (Some s) = has_content s.history
 
--- whether there is a surface of which this is true
+-- the surface is there and shows the buffer
 abbrev pub shows_at : ℕ → Option Surface → Bool
 shows_at buffer None = false
 shows_at buffer (Some s) = shows buffer s.history
@@ -109,12 +111,12 @@ abbrev pub has_at : ℕ → Option Surface → Bool
 has_at buffer None = false
 has_at buffer (Some s) = has buffer s.history
 
--- the answer is whether some surface has the property
+-- The answer is whether some surface has the property.
 abbrev pub IsAny : (Option Surface → Bool) → Numbered → Bool → Type 0
 IsAny property all true = (number : ℕ) × (property (all number) ≡ true)
 IsAny property all false = (number : ℕ) → property (all number) ≡ false
 
--- what is told is what counts, where there is such a surface
+-- What is told is what counts of the surface; nothing is told without one.
 abbrev pub IsCurrentAt : {A : Type 0} → Option (Current A) → Option Surface → Type 0
 IsCurrentAt None None = Unit {0}
 IsCurrentAt (Some c) (Some s) = IsCurrent c s.history

@@ -1,4 +1,5 @@
--- The stack of a surface and its children, as the requests of the surface order it, and as it is kept (wayland.xml, wl_subsurface).
+-- The stack of a surface and its children: as the surface's requests order it, and as it is kept
+-- (wayland.xml, wl_subsurface).
 use Rattle.std.specs.Prelude.{ℕ, ℤ, pos, ◌≡◌, ◌==◌, Bool, true, false, cond, Option, Some, None, List, [], ◌∷◌, ◌++◌, filter_map}
 use Rattle.std.specs.List.{list_any}
 use Rattle.std.specs.Option.{option_map}
@@ -11,18 +12,18 @@ use Rattle.wl_links.specs.Stacks.{added, alone, beside, moved, placed, without}
 use Rattle.wl_surface.specs.Request.{AddChild, Child, Itself, Member, PlaceAbove, PlaceBelow, Request, SetPosition}
 use Rattle.wl_surface.specs.State.{is_member, order, position}
 
--- the child of each link that lives, by the link's number
+-- the child of each living link, by the link's number
 abbrev pub Kids : Type 0
 Kids = ℕ → Option ℕ
 
 abbrev pub with_kid : ℕ → Option ℕ → Kids → Kids
 with_kid link child kids other = cond (other == link) child (kids other)
 
--- no two links that live have the same child
+-- no two living links have the same child
 abbrev pub AreApart : Kids → Type 0
 AreApart kids = (k l child : ℕ) → kids k ≡ Some child → kids l ≡ Some child → k ≡ l
 
--- a child is kept by its surface, where its link lives; and where it was last placed
+-- what is kept of a member: its surface, if its link lives, and where it was last placed
 abbrev pub place_of : Kids → List Request → Member → Option Placed
 place_of kids requests Itself = Some (record { member = kept.Itself; x = pos 0; y = pos 0 })
 place_of kids requests (Child link) =
@@ -36,14 +37,14 @@ stack_by kids requests = filter_map (place_of kids requests) (order requests)
 abbrev pub has_child : ℕ → List Request → Bool
 has_child link requests = list_any (is_member (Child link)) (order requests)
 
--- a member is kept so
+-- This is what is kept of the member.
 abbrev pub IsKept : Kids → Member → Kept → Type 0
 IsKept kids Itself kept.Itself = Unit {0}
 IsKept kids (Child link) (kept.Child child) = kids link ≡ Some child
 IsKept kids Itself (kept.Child child) = ⊥
 IsKept kids (Child link) kept.Itself = ⊥
 
--- a child is placed on this side of a member
+-- the request that places a child on this side of a member
 abbrev pub place_request : Side → ℕ → Member → Request
 place_request Above link at = PlaceAbove link at
 place_request Below link at = PlaceBelow link at
@@ -56,7 +57,8 @@ is_about_children (PlaceAbove link at) = true
 is_about_children (PlaceBelow link at) = true
 is_about_children request = false
 
--- What each request makes of the stack, and the end of a link, is what is done to the stack that is kept.
+-- What each request makes of the stack is what is done to the kept stack. So is what the end of a
+-- link makes of it.
 pub record StacksFollow : Type 0 where
   pub begin : (kids : Kids) → stack_by kids [] ≡ alone
   pub still : (kids : Kids) (requests : List Request) (r : Request) → is_about_children r ≡ false

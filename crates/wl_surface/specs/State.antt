@@ -1,4 +1,5 @@
--- What counts of what was asked of a surface. The first `cut` of its requests count; the cut is 0 or the place just after a commit.
+-- What counts of what a client asked of a surface: the first `cut` of its requests. The cut is 0,
+-- or the place just behind a commit.
 use Rattle.std.specs.Prelude.{ℕ, suc, ◌≡◌, ◌+◌, ◌*◌, ◌/◌, ◌%◌, ℤ, pos, negsuc, ◌+ℤ◌, int_lt, ◌==◌, nat_lt, ◌&&◌, ◌||◌, Bool, true}
 use Rattle.std.specs.Prelude.{false, cond, if◌then◌else◌, Option}
 use Rattle.std.specs.Prelude.{Some, None, List, [], ◌∷◌, ◌++◌, length, take, drop, fold, filter, flat_map, not}
@@ -11,16 +12,16 @@ use Rattle.wl_surface.specs.Request.{Buffer, Member, Itself, Child, Request, Att
 use Rattle.wl_surface.specs.Request.{SetBufferTransform, SetBufferScale, SetWindowGeometry, Commit, AddChild, SetPosition, PlaceAbove}
 use Rattle.wl_surface.specs.Request.{PlaceBelow}
 
--- what was asked of a surface, and how much of it counts
+-- what was asked of a surface, and how many of its requests count
 pub record History : Type 0 where
   pub requests : List Request
   pub cut : ℕ
 
--- what counts of a surface's list
+-- the requests that count
 abbrev pub counting : History → List Request
 counting h = take h.cut h.requests
 
--- The kinds of state of which the last request counts. No input region means that each point takes input.
+-- The state of which the last request counts. Without an input region each point takes input.
 pub record Values : Type 0 where
   pub buffer : Option Buffer
   pub transform : ℕ
@@ -37,7 +38,7 @@ abbrev pub changes_or_none : Option (List Change) → List Change
 changes_or_none None = []
 changes_or_none (Some changes) = changes
 
--- one request more
+-- the values with one request more
 abbrev pub asked : Values → Request → Values
 asked v (Attach buffer x y) = record v { buffer = buffer }
 asked v (SetBufferTransform transform) = record v { transform = transform }
@@ -54,7 +55,7 @@ abbrev pub is_commit : Request → Bool
 is_commit Commit = true
 is_commit request = false
 
--- the place just after the last commit, or 0
+-- the place just behind the last commit, or 0
 abbrev pub committed_from : ℕ → ℕ → List Request → ℕ
 committed_from at last [] = last
 committed_from at last (r ∷ rs) = committed_from (suc at) (if is_commit r then suc at else last) rs
@@ -62,8 +63,8 @@ committed_from at last (r ∷ rs) = committed_from (suc at) (if is_commit r then
 abbrev pub committed : List Request → ℕ
 committed requests = committed_from 0 0 requests
 
--- pending, held and applied state (wayland.xml, wl_surface.commit and
--- wl_subsurface): at the end of the list, at the last commit, at the cut
+-- the pending, held and applied state: the values at the end of the list, at the last commit, and
+-- at the cut (wayland.xml, wl_surface.commit and wl_subsurface)
 abbrev pub pending : History → Values
 pending h = values h.requests
 
@@ -73,7 +74,7 @@ held h = values (take (committed h.requests) h.requests)
 abbrev pub applied : History → Values
 applied h = values (counting h)
 
--- to apply a surface is to take its state up to its last commit
+-- applying a surface takes its state up to its last commit
 abbrev pub apply : History → History
 apply h = record h { cut = committed h.requests }
 
@@ -82,7 +83,8 @@ abbrev pub within_bounds : ℤ → ℤ
 within_bounds z =
     if int_lt z (negsuc 16777215) then negsuc 16777215 else (if int_lt (pos 16777216) z then pos 16777216 else z)
 
--- where a surface has moved to, and the x and y of the last attach since the last commit, if there is one
+-- where a surface has moved to, and the x and y of the last attach after the last commit, if there
+-- is one
 pub record Moving : Type 0 where
   pub x : ℤ
   pub y : ℤ
@@ -97,12 +99,14 @@ moving m (Attach buffer x y) = record m { next = Some (x, y) }
 moving m Commit = moved_by m m.next
 moving m request = m
 
--- The offset of a surface: each commit adds the x and y of its last attach, if there is one (wayland.xml, wl_surface.attach).
+-- the offset of a surface: each commit adds the x and y of the pending attach, if there is one
+-- (wayland.xml, wl_surface.attach)
 abbrev pub offset : List Request → Moving
 offset requests = fold moving (record { x = pos 0; y = pos 0; next = None }) requests
 
--- the size of what is shown: the sides of the buffer divided by the scale, and exchanged by an odd transform; nothing without a buffer
--- (wayland.xml, wl_surface.set_buffer_scale, set_buffer_transform)
+-- the size of a surface in its own points: the buffer's, divided by the scale, and exchanged by an
+-- odd transform (wayland.xml, wl_surface.set_buffer_scale, set_buffer_transform). Without a buffer
+-- it is 0.
 abbrev pub width_of : Option Buffer → ℕ → ℕ → ℕ
 width_of None transform scale = 0
 width_of (Some b) transform scale = cond (is_turned (transform_of transform)) (b.height / scale) (b.width / scale)
@@ -111,12 +115,13 @@ abbrev pub height_of : Option Buffer → ℕ → ℕ → ℕ
 height_of None transform scale = 0
 height_of (Some b) transform scale = cond (is_turned (transform_of transform)) (b.width / scale) (b.height / scale)
 
--- the width and the height of a buffer are multiples of the scale
+-- the sides of the buffer are multiples of the scale
 abbrev pub is_whole : Option Buffer → ℕ → Bool
 is_whole None scale = true
 is_whole (Some b) scale = (b.width % scale == 0) && (b.height % scale == 0)
 
--- the rectangles of the damage requests: of points of the surface, and of points of its buffer (wayland.xml, wl_surface.damage, damage_buffer)
+-- the rectangles of the damage requests: of the surface's points, and of its buffer's points
+-- (wayland.xml, wl_surface.damage, damage_buffer)
 abbrev pub damaged_rect : Request → List Rect
 damaged_rect (Damage rect) = rect ∷ []
 damaged_rect request = []
@@ -131,28 +136,31 @@ damaged_buffer_rect request = []
 abbrev pub damaged_buffer_rects : List Request → List Rect
 damaged_buffer_rects requests = flat_map damaged_buffer_rect requests
 
--- what was asked between two cuts
+-- the requests between two cuts
 abbrev pub between : ℕ → ℕ → List Request → List Request
 between old new requests = drop old (take new requests)
 
--- Damage that is told by rectangles of a surface of that size: a point of it in one of them; each point where these are more than 1,024.
+-- the damage that rectangles of a surface of this size tell: the points in one of them, or every
+-- point where they are more than 1,024
 abbrev pub is_damaged : ℕ → ℕ → List Rect → ℕ → ℕ → Bool
 is_damaged width height rects x y =
     (nat_lt x width && nat_lt y height) && cond (nat_lt 1024 (length rects)) true (list_any (in_rect (pos x) (pos y)) rects)
 
--- two spans from a first point to before another have a point in common
+-- two spans have a point in common; each goes from its first point to before its end
 abbrev pub overlap : ℤ → ℤ → ℤ → ℤ → Bool
 overlap a b c d = (int_lt a b && int_lt c d) && (int_lt a d && int_lt c b)
 
--- A point that a surface of this scale shows is a block of so many by so many points of its buffer. The block has a point in a rectangle.
+-- The block of buffer points that a surface's point shows has a point in the rectangle. It is
+-- `scale` by `scale` points.
 abbrev pub meets : ℕ → ℕ × ℕ → Rect → Bool
 meets scale point r =
     overlap r.x (r.x +ℤ r.w) (pos (point.0 * scale)) (pos (point.0 * scale + scale))
     && overlap r.y (r.y +ℤ r.h) (pos (point.1 * scale)) (pos (point.1 * scale + scale))
 
--- Damage that is applied by one step, of a surface that shows these values then: a point of the surface in one of the rectangles that were
--- asked between the old and the new cut, or whose block of the buffer has a point in one of those of the buffer; each point where both are
--- more than 1,024 together (wayland.xml, wl_surface.damage, damage_buffer).
+-- The damage that these requests ask of a surface that shows these values. A point is damaged if it
+-- is in a rectangle of the surface, or its block in the buffer has a point in one of the buffer.
+-- Every point is if both are more than 1,024 together (wayland.xml, wl_surface.damage,
+-- damage_buffer).
 abbrev pub is_damaged_by : Values → List Request → ℕ → ℕ → Bool
 is_damaged_by v requests x y =
     let width = width_of v.buffer v.transform v.scale in
@@ -162,22 +170,24 @@ is_damaged_by v requests x y =
     (list_any (in_rect (pos x) (pos y)) (damaged_rects requests)
     || list_any (meets v.scale (buffer_point (transform_of v.transform) width height x y)) (damaged_buffer_rects requests))
 
--- Rectangles of a surface that shows these values say just that damage.
+-- These rectangles tell just the damage that the requests ask, of a surface that shows these
+-- values.
 abbrev pub SaysDamage : List Rect → Values → List Request → Type 0
 SaysDamage rects v requests =
     (x y : ℕ) → is_damaged (width_of v.buffer v.transform v.scale) (height_of v.buffer v.transform v.scale) rects x y ≡ is_damaged_by v requests x y
 
--- the last window geometry that was asked, if there is one
+-- the last window geometry asked, if there is one
 abbrev pub geometry_asked : Option Rect → Request → Option Rect
 geometry_asked g (SetWindowGeometry rect) = Some rect
 geometry_asked g request = g
 
--- The window geometry that counts: the last counting one since the place in the list at which the role object was made, or at which the
--- last unmapping commit stands, whichever is later (xdg-shell.xml, xdg_surface.set_window_geometry).
+-- The window geometry that counts: the last counting one behind a place in the list. There the role
+-- object was made, or the last unmapping commit stands, whichever is later (xdg-shell.xml,
+-- xdg_surface.set_window_geometry).
 abbrev pub geometry : ℕ → History → Option Rect
 geometry since h = fold geometry_asked None (drop since (counting h))
 
--- the order of a surface and its children, from below; links that ended are among them
+-- the order of a surface and its children, from below, with those of links that ended
 abbrev pub is_member : Member → Member → Bool
 is_member Itself Itself = true
 is_member Itself (Child l) = false
@@ -195,7 +205,8 @@ abbrev pub below : Member → Member → List Member → List Member
 below m at [] = []
 below m at (x ∷ xs) = if is_member at x then m ∷ x ∷ xs else x ∷ below m at xs
 
--- A child beside a sibling, or beside the surface itself; where the order has no such sibling it stays as it is.
+-- the order, with a child put beside a sibling or the surface itself; without such a sibling it
+-- stays as it is
 abbrev pub placed : (Member → Member → List Member → List Member) → ℕ → Member → List Member → List Member
 placed beside l at members =
     if list_any (is_member at) (without (Child l) members) then beside (Child l) at (without (Child l) members) else members
@@ -206,11 +217,12 @@ ordered members (PlaceAbove l at) = placed above l at members
 ordered members (PlaceBelow l at) = placed below l at members
 ordered members request = members
 
--- The order that counts: a new child is topmost; placing moves it next to the parent or a sibling (wayland.xml, wl_subsurface.place_above).
+-- the order that requests make: a new child is topmost, and placing moves it next to the parent or
+-- a sibling (wayland.xml, wl_subsurface.place_above)
 abbrev pub order : List Request → List Member
 order requests = fold ordered (Itself ∷ []) requests
 
--- where a child was last placed: at (0, 0) at first (wayland.xml, wl_subsurface.set_position)
+-- where a child was last placed, at (0, 0) at first (wayland.xml, wl_subsurface.set_position)
 abbrev pub position_asked : ℕ → ℤ × ℤ → Request → ℤ × ℤ
 position_asked l at (SetPosition k x y) = cond (k == l) (x, y) at
 position_asked l at request = at

@@ -3,7 +3,8 @@ use Rattle.std.specs.Prelude.{ℕ, ◌≡◌, List, [], ◌∷◌, ◌++◌}
 use Rattle.wl_surface.specs.Request.{Request, Commit}
 use Rattle.wl_surface.specs.State.{applied, apply, held, values}
 
--- After a commit what is held is what was pending, and once the surface is applied that is what counts.
+-- A commit makes the pending state the held one, and applying the surface makes that the applied
+-- one.
 abbrev pub CommitTakesAll : Type 0
 CommitTakesAll =
     (requests : List Request) (cut : ℕ)

@@ -4,8 +4,8 @@ use Rattle.wl_surface.specs.Request.{Buffer, Request}
 use Rattle.wl_surface.specs.declared.role.Role.{Role}
 use Rattle.wl_surface.specs.State.{History, applied, apply, held, pending}
 
--- A surface by the id of its wl_surface: what was asked of it, and its role, if it has one. A
--- role is for life: the same one may be given again (wayland.xml, wl_surface).
+-- A surface, by the id of its wl_surface: what was asked of it, and its role, if it has one. It has
+-- a role for life, and may be given the same one again (wayland.xml, wl_surface).
 pub record Surface : Type 0 where
   pub id : ℕ
   pub history : History
@@ -18,11 +18,11 @@ new_surface id = record { id = id; history = record { requests = []; cut = 0 }; 
 abbrev pub with_role : Role → Surface → Surface
 with_role role s = record s { role = Some role }
 
--- a request more is asked of a surface
+-- a surface with one request more
 abbrev pub asking : Request → Surface → Surface
 asking request s = record s { history = record s.history { requests = s.history.requests ++ request ∷ [] } }
 
--- a surface takes its state up to its last commit
+-- a surface with its state taken up to its last commit
 abbrev pub applying : Surface → Surface
 applying s = record s { history = apply s.history }
 

@@ -5,8 +5,9 @@ use Rattle.std.specs.Option.{option_map}
 use Rattle.wl_surface.specs.Surface.{Surface, has, new_surface, shows}
 use Rattle.wl_surface.specs.State.{History}
 
--- A wl_subsurface that lives or lived, by its number among the client's: its surface, its parent, whether it is
--- synchronised, and whether it has ended (wayland.xml, wl_subcompositor.get_subsurface and wl_subsurface).
+-- A wl_subsurface that lives or lived, by its number among the client's: its surface, its parent,
+-- whether it is synchronised, and whether it has ended (wayland.xml,
+-- wl_subcompositor.get_subsurface and wl_subsurface).
 pub record Link : Type 0 where
   pub number : ℕ
   pub child : ℕ
@@ -37,7 +38,7 @@ with_new id all = record all { surfaces = all.surfaces ++ new_surface id ∷ [] 
 abbrev pub without_surface : ℕ → Surfaces → Surfaces
 without_surface id all = record all { surfaces = filter (λ s. not (s.id == id)) all.surfaces }
 
--- the surface of this id changes, and no other
+-- the surfaces, with the one of this id changed
 abbrev pub with_change : ℕ → (Surface → Surface) → Surfaces → Surfaces
 with_change id change all = record all { surfaces = map (λ s. cond (s.id == id) (change s) s) all.surfaces }
 

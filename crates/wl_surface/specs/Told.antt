@@ -1,7 +1,7 @@
--- What a call tells that applies nothing.
+-- What a call tells if it applies nothing.
 use Rattle.std.specs.Prelude.{◌≡◌, []}
 use Rattle.wl_surface.specs.declared.applied.Applied.{Applied}
 
--- no change, no buffer that is free, and none that was shown
+-- no change, no freed buffer, and none that was shown
 abbrev pub TellsNothing : {A : Type 0} → Applied A → Type 0
 TellsNothing told = (told.changes.items ≡ []) × (told.freed.items ≡ []) × (told.shown.items ≡ [])

@@ -17,16 +17,16 @@ use Rattle.wl_surface.specs.Linked.{numbered}
 abbrev pub is_among : List ℕ → ℕ → Bool
 is_among numbers number = list_any (λ n. n == number) numbers
 
--- no number stands twice
+-- no number is there twice
 abbrev pub AreOnce : List ℕ → Type 0
 AreOnce [] = Unit {0}
 AreOnce (n ∷ ns) = (is_among ns n ≡ false) × AreOnce ns
 
--- these surfaces are applied
+-- the surfaces, with these applied
 abbrev pub applied_among : List ℕ → Numbered → Numbered
 applied_among numbers all number = if is_among numbers number then option_map applying (all number) else all number
 
--- and so are their stacks
+-- the stacks, with those of these surfaces applied
 abbrev pub stacks_among : List ℕ → (ℕ → Stacks) → ℕ → Stacks
 stacks_among numbers stacks number = if is_among numbers number then applied (stacks number) else stacks number
 
@@ -46,7 +46,7 @@ abbrev pub shown_at : Option Surface → List Buffer
 shown_at None = []
 shown_at (Some s) = listed (applied_of s.history).buffer ++ listed (held_of s.history).buffer
 
--- and those of these surfaces, in turn
+-- the buffers that these surfaces have applied and held, one after another
 abbrev pub shown_by : List ℕ → Numbered → List Buffer
 shown_by [] all = []
 shown_by (n ∷ ns) all = shown_at (all n) ++ shown_by ns all
@@ -55,47 +55,50 @@ shown_by (n ∷ ns) all = shown_at (all n) ++ shown_by ns all
 abbrev pub AreAmong : List ℕ → List Buffer → Type 0
 AreAmong numbers buffers = (number : ℕ) → is_among numbers number ≡ true → is_among (numbers_of buffers) number ≡ true
 
--- The buffers that surfaces of a kind show: whatever one of them shows is among these, and each of these is as one of them shows it.
+-- The buffers that surfaces of a kind show. Each buffer that one of them shows is among these. Each
+-- of these is as one of them shows it.
 pub record AreShown (is_such : ℕ → Bool) (all : Surfaces) (buffers : List Buffer) : Type 0 where
   pub each : (number buffer : ℕ) → is_such number ≡ true → shows_at buffer (surface_at number all) ≡ true
       → is_among (numbers_of buffers) buffer ≡ true
   pub those : (buffer : Buffer) → Contains buffers buffer
       → (number : ℕ) × (is_such number ≡ true) × Contains (shown_at (surface_at number all)) buffer
 
--- of each of these in turn it is told what it changes that it is applied
+-- Of each of these surfaces in turn it is told what applying it changes.
 abbrev pub AreTold : {A : Type 0} → List ℕ → Numbered → List (Change A) → Type 0
 AreTold [] all changes = changes ≡ []
 AreTold {A} (n ∷ ns) all changes =
     (one : Option (Change A)) × (others : List (Change A)) × AreApplied n (all n) one × AreTold ns all others
     × (changes ≡ listed one ++ others)
 
--- so it is told behind what was told before
+-- The same is told behind what was told before.
 abbrev pub AreToldAfter : {A : Type 0} → List (Change A) → List ℕ → Numbered → List (Change A) → Type 0
 AreToldAfter {A} before numbers all changes = (told : List (Change A)) × (changes ≡ before ++ told) × AreTold numbers all told
 
--- The surface and those that descend from it are applied, each once, and of each it is told what that changes.
+-- The surface and all that descend from it are applied, each once. Of each it is told what that
+-- changes.
 pub record IsTold {A : Type 0} (surface : ℕ) (all : Surfaces) (changes : List (Change A)) : Type 0 where
   pub numbers : List ℕ
   pub once : AreOnce numbers
   pub those : (number : ℕ) → is_among numbers number ≡ descends_from 16 all surface number
   pub told : AreTold numbers (numbered all) changes
 
--- nothing is told of a commit that is held
+-- nothing is told where the flag is set, as for a commit that is held
 abbrev pub IsToldUnless : {A : Type 0} → Bool → ℕ → Surfaces → List (Change A) → Type 0
 IsToldUnless true surface all changes = changes ≡ []
 IsToldUnless false surface all changes = IsTold surface all changes
 
--- wl_surface.commit
+-- wl_surface.commit tells of the surface and its tree, unless it is held.
 abbrev pub IsCommitTold : {A : Type 0} → ℕ → Surfaces → List (Change A) → Type 0
 IsCommitTold surface all changes =
     IsToldUnless (behaves_synchronised levels all surface) surface (with_change surface (asking Commit) all) changes
 
--- the surfaces whose shown buffers that may change: the surface with those that descend from it, or it alone where its commit is held
+-- the surfaces whose shown buffers a commit may change: those that it applies, or the surface alone
+-- where it is held
 abbrev pub is_committed : ℕ → Surfaces → ℕ → Bool
 is_committed surface all number =
     if behaves_synchronised levels all surface then number == surface else descends_from 16 all surface number
 
--- wl_subsurface.set_desync: something is told where the child behaved synchronised, and doesn't any more.
+-- wl_subsurface.set_desync tells something if the child behaved synchronised and doesn't any more.
 abbrev pub IsDesyncTold : {A : Type 0} → ℕ → ℕ → Surfaces → List (Change A) → Type 0
 IsDesyncTold number child all changes =
     IsToldUnless (not (behaves_synchronised levels all child) || behaves_synchronised levels (unheld number all) child) child
@@ -104,13 +107,14 @@ IsDesyncTold number child all changes =
     unheld : ℕ → Surfaces → Surfaces
     unheld number all = with_link number (in_mode false) all
 
--- and the surfaces that are applied then: the child with those that descend from it
+-- the surfaces that set_desync applies: the child with all that descend from it, or none
 abbrev pub is_released : ℕ → ℕ → Surfaces → ℕ → Bool
 is_released number child all other =
     behaves_synchronised levels all child
     && (not (behaves_synchronised levels (with_link number (in_mode false) all) child) && descends_from 16 all child other)
 
--- wl_surface.destroy: it is told of the surface, where it showed a buffer, and of those that descended from it, which are applied.
+-- wl_surface.destroy tells of the surface, if it showed a buffer, and of those that descended from
+-- it, which are applied.
 pub record IsEndTold {A : Type 0} (surface : ℕ) (all : Surfaces) (changes : List (Change A)) : Type 0 where
   pub own : List (Change A)
   pub others : List (Change A)

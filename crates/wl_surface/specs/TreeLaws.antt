@@ -10,54 +10,56 @@ use Rattle.wl_surface.specs.Surfaces.{Link, Surfaces}
 use Rattle.wl_surface.specs.Trees.{applied_tree, behaves_synchronised, depth, descends_from, ending, height, levels, link_of}
 use Rattle.wl_surface.specs.Trees.{is_bad_parent, is_too_deep}
 
--- a link of this child that hasn't ended
+-- the link is of this child and hasn't ended
 abbrev pub is_live_of : ℕ → Link → Bool
 is_live_of child l = not l.has_ended && l.child == child
 
--- Each child has one link that hasn't ended (wayland.xml, wl_subcompositor.get_subsurface: a surface has one role object).
+-- Each child has one living link at most (wayland.xml, wl_subcompositor.get_subsurface: a surface
+-- has one role object).
 abbrev pub AreOnceLinked : List Link → Type 0
 AreOnceLinked [] = Unit {0}
 AreOnceLinked (l ∷ ls) = (l.has_ended ≡ false → list_any (is_live_of l.child) ls ≡ false) × AreOnceLinked ls
 
--- of these surfaces the state is taken up to the last commit, of no others
+-- the surfaces, with those of a kind applied
 abbrev pub applied_where : (ℕ → Bool) → Surfaces → Surfaces
 applied_where which all = record all { surfaces = map (λ s. cond (which s.id) (applying s) s) all.surfaces }
 
--- To apply a surface is to apply what descends from it.
+-- Applying a surface applies each surface that descends from it.
 abbrev pub AppliesDescendants : Type 0
 AppliesDescendants =
     (all : Surfaces) → AreOnceLinked all.links → (n surface : ℕ)
     → applied_tree (suc n) surface all ≡ applied_where (descends_from n all surface) all
 
--- the links that are with this surface, as their child or their parent, have ended
+-- the links, with those ended that have this surface as child or parent
 abbrev pub ended_with : ℕ → List Link → List Link
 ended_with surface links = map (λ l. cond (l.child == surface || l.parent == surface) (ending l) l) links
 
--- the links of a client as they are kept, by their children
+-- the living links of a client as they are kept, by their children
 abbrev pub links_of : Surfaces → Links
 links_of all child = option_map (λ l. record { parent = l.parent; is_synchronised = l.synchronised }) (link_of child all)
 
--- Of what is kept and by definition a surface stands as deep.
+-- A surface is as deep by what is kept as by definition.
 abbrev pub HaveSameDepth : Type 0
 HaveSameDepth = (all : Surfaces) (n surface : ℕ) → depth n all surface ≡ depth_by n (parents_of (links_of all)) surface
 
--- Of both it descends from the same.
+-- It descends from the same surfaces by both.
 abbrev pub HaveSameDescent : Type 0
 HaveSameDescent =
     (all : Surfaces) (n top surface : ℕ) → descends_from n all top surface ≡ is_under n (parents_of (links_of all)) top surface
 
--- Of both it behaves synchronised, or of neither.
+-- It behaves synchronised by both, or by neither.
 abbrev pub HaveSameModes : Type 0
 HaveSameModes = (all : Surfaces) (n surface : ℕ) → behaves_synchronised n all surface ≡ behaves_by n (links_of all) surface
 
--- Of both as many levels stand below it, where no place is deeper than 16; below a surface without a place none do.
+-- By both as many levels stand below it, if no place is deeper than 16. Below a surface without a
+-- place none do.
 abbrev pub HaveSameHeight : Type 0
 HaveSameHeight =
     (all : Surfaces) (places : List Place) → AreOnceLinked all.links → StandFor places (parents_of (links_of all))
     → ((index : ℕ) → level_at index places ≤ 16) → (surface height_kept : ℕ)
     → IsHeightBelow (parents_of (links_of all)) surface height_kept → height levels all surface ≡ height_kept
 
--- By both the same children are refused (wl_subcompositor.get_subsurface), where no place is deeper than 16.
+-- Both refuse the same children (wl_subcompositor.get_subsurface), if no place is deeper than 16.
 abbrev pub HaveSameRefusals : Type 0
 HaveSameRefusals =
     (all : Surfaces) (places : List Place) → AreOnceLinked all.links → StandFor places (parents_of (links_of all))
@@ -65,13 +67,14 @@ HaveSameRefusals =
     → ((is : Bool) → IsTooDeep child parent links is → is_too_deep all child parent ≡ is)
     × (is_bad_parent all child parent ≡ is_under 16 (parents_of links) child parent)
 
--- A surface without a link that lives, from which this one descends: the only such one, at however many levels that is looked at.
+-- A surface is the only one without a living link from which this one descends, at whatever number
+-- of levels one looks.
 pub record IsOnlyRoot (all : Surfaces) (surface root : ℕ) : Type 0 where
   pub unlinked : link_of root all ≡ None
   pub above : descends_from levels all root surface ≡ true
   pub only : (n other : ℕ) → link_of other all ≡ None → descends_from n all other surface ≡ true → other ≡ root
 
--- What is reached from a surface by going from child to parent is the root of its tree, where no place is deeper than 16.
+-- Going from child to parent ends at the root of a surface's tree, if no place is deeper than 16.
 abbrev pub HasOneRoot : Type 0
 HasOneRoot =
     (all : Surfaces) (places : List Place) → StandFor places (parents_of (links_of all)) → ((index : ℕ) → level_at index places ≤ 16)

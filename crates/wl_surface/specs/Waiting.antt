@@ -10,22 +10,22 @@ use Rattle.wl_surface.specs.Slots.{Numbered}
 use Rattle.wl_surface.specs.State.{counting}
 use Rattle.wl_surface.specs.Surface.{Surface}
 
--- a callback that a frame request asked for, by that request's number among the client's
+-- a callback, by the number of its frame request among the client's
 pub record Callback : Type 0 where
   pub number : ℕ
   pub id : ℕ
 
 -- ---- what is kept
 
--- it was requested of this surface
+-- the request is of this surface
 abbrev pub is_of : ℕ → Waiting → Bool
 is_of surface w = w.surface == surface
 
--- a commit of this surface holds it
+-- the request after a commit of this surface, which holds it if it is the surface's
 abbrev pub held_by : ℕ → Waiting → Waiting
 held_by surface w = record w { is_held = w.is_held || is_of surface w }
 
--- once this surface is applied, what is held of it counts
+-- the request after this surface is applied: if it is the surface's, it counts where it is held
 abbrev pub applied_by : ℕ → Waiting → Waiting
 applied_by surface w = record w { is_applied = if is_of surface w then w.is_held else w.is_applied }
 
@@ -33,11 +33,11 @@ applied_by surface w = record w { is_applied = if is_of surface w then w.is_held
 abbrev pub callbacks_of : ℕ → List Waiting → List ℕ
 callbacks_of surface frames = map (λ (w : Waiting). w.callback) (filter (is_of surface) frames)
 
--- those of the other surfaces
+-- the requests of the other surfaces
 abbrev pub without_those_of : ℕ → List Waiting → List Waiting
 without_those_of surface frames = filter (λ w. not (is_of surface w)) frames
 
--- the applied one that was requested first, and the others
+-- the callback that is due next: of those that count, the first requested
 abbrev pub next_of : List Waiting → Option ℕ
 next_of frames = option_map (λ (w : Waiting). w.callback) (find (λ (w : Waiting). w.is_applied) frames)
 
@@ -47,7 +47,8 @@ without_next (w ∷ ws) = cond w.is_applied ws (w ∷ without_next ws)
 
 -- ---- what it stands for
 
--- the numbers of the frame requests of a surface, of those up to its last commit, and of those that count
+-- the numbers of a surface's frame requests: of all, of those up to its last commit, and of those
+-- that count
 abbrev pub frames_at : Option Surface → List ℕ
 frames_at None = []
 frames_at (Some s) = frames_of s.history.requests
@@ -66,8 +67,8 @@ counted_at at = (held_at at, applied_at at)
 abbrev pub is_in : List ℕ → Callback → Bool
 is_in numbers c = list_any (λ n. n == c.number) numbers
 
--- What is kept of a callback: its id, the surface that it was requested of, whether a commit came after that request, and whether it
--- counts.
+-- What is kept of a callback: its id, its surface, whether a commit came after its request, and
+-- whether the request counts.
 pub record IsWaiting (w : Waiting) (all : Numbered) (c : Callback) : Type 0 where
   pub id : w.callback ≡ c.id
   pub asked : (number : ℕ) → is_in (frames_at (all number)) c ≡ (number == w.surface)
@@ -80,14 +81,14 @@ AreWaiting (w ∷ ws) all (c ∷ cs) = IsWaiting w all c × AreWaiting ws all cs
 AreWaiting [] all (c ∷ cs) = ⊥
 AreWaiting (w ∷ ws) all [] = ⊥
 
--- no frame request has this number, and no callback
+-- neither a frame request nor a callback has this number
 abbrev pub IsNewNumber : ℕ → Numbered → List Callback → Type 0
 IsNewNumber n all cs =
     ((number : ℕ) → list_any (λ m. m == n) (frames_at (all number)) ≡ false) × (list_any (λ (c : Callback). n == c.number) cs ≡ false)
 
 -- ---- what the next frame answers
 
--- no request that counts is for it
+-- no request that counts is for this callback
 abbrev pub IsUndue : Numbered → Callback → Type 0
 IsUndue all c = (number : ℕ) → is_in (applied_at (all number)) c ≡ false
 
@@ -95,7 +96,7 @@ abbrev pub AreUndue : Numbered → List Callback → Type 0
 AreUndue all [] = Unit {0}
 AreUndue all (c ∷ cs) = IsUndue all c × AreUndue all cs
 
--- The callback with this id is the first whose request counts; without it, these wait.
+-- The callback with this id is the first whose request counts. The others wait.
 pub record IsNextDue (id : ℕ) (all : Numbered) (cs : List Callback) (frames : List Waiting) : Type 0 where
   pub before : List Callback
   pub callback : Callback
