@@ -8,7 +8,7 @@ pub hex_of-append : (front bytes : List ℕ) → hex_of (front ++ bytes) ≡ hex
 hex_of-append [] bytes = refl
 hex_of-append (b ∷ front) bytes = ap (λ (t : List ℕ). hex_digit (b / 16) ∷ hex_digit (b % 16) ∷ t) (hex_of-append front bytes)
 
--- two digits more at the end of a front
+-- two more digits at the end of a front
 take-two : (xs : List ℕ) (n a b : ℕ) → n + 1 < length xs → take (n + 2) (slice_set (slice_set xs n a) (n + 1) b) ≡ take n xs ++ a ∷ b ∷ []
 take-two xs n a b h =
     let one : n < length xs = omega arith in
@@ -16,7 +16,7 @@ take-two xs n a b h =
     let e : n + 2 ≡ n + 1 + 1 = omega arith in
     rw e (take_more_set (slice_set xs n a) (n + 1) b two ∙ ap (λ (t : List ℕ). t ++ b ∷ []) (take_more_set xs n a one) ∙ append_assoc (take n xs) (a ∷ []) (b ∷ []))
 
--- a byte more
+-- one more byte
 pub spelt_more : (digits bytes : List ℕ) (i : ℕ) → 2 * i + 1 < length digits → i < length bytes → take (2 * i) digits ≡ hex_of (take i bytes)
     → take (2 * (i + 1)) (slice_set (slice_set digits (2 * i) (hex_digit (get_or bytes i 0 / 16))) (2 * i + 1) (hex_digit (get_or bytes i 0 % 16)))
     ≡ hex_of (take (i + 1) bytes)

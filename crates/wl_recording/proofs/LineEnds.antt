@@ -39,7 +39,7 @@ at_end None new kept ends = tt
 at_end (Some xs) None kept ends = absurd kept
 at_end (Some xs) (Some ys) kept ends = kept ∙ ends
 
--- what was taken of the bytes that were shown, by what ends it
+-- what was taken of the bytes that were lent, by what ends it
 abbrev pub TakenAs : Part → ℕ → Option (List ℕ) → Option (List ℕ) → List ℕ → Type 0
 TakenAs part kept old new shown = All InLine (take kept shown) × IsTaken part old new (take kept shown)
 

@@ -49,7 +49,7 @@ named text word same blank fit =
     let fits : is_name (first_word text) ≡ true = ap is_name (sym same) ∙ fit in
     ap Some same ∙ rw (blank, fits) refl
 
--- what is made of the only three words of a text
+-- what the only three words of a text make
 pub all_words : (by : List ℕ → List ℕ → List ℕ → Option Asked) (text a b d : List ℕ) (asked : Option Asked) → a ≡ first_word text → b ≡ first_word (after_word text)
     → d ≡ first_word (after_word (after_word text)) → is_blank (after_three text) ≡ true → asked ≡ by a b d
     → asked ≡ (if is_blank (after_three text) then by (first_word text) (first_word (after_word text)) (first_word (after_word (after_word text))) else None)

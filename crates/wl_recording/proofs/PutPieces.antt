@@ -1,4 +1,4 @@
--- Of bytes that come into a store a part is written.
+-- A part of the bytes that come into a store is written.
 use Rattle.std.proofs.Common.{◌≡◌, ◌≤◌, ◌-◌, ℕ, List, [], ◌∷◌, ◌++◌, Option, Some, None, length, take, drop, refl, sym, subst, append-nil, arith}
 use Rattle.wl_recording.specs.Line.{Asked}
 use Rattle.wl_recording.specs.Recording.{HoldsTo, Puts, Recorded, stores}

@@ -58,7 +58,7 @@ range-words line first behind second further third last r one rest two more thre
 
 -- ---- the first range
 
--- of a first line that names none, there is none
+-- A first line that names no range gives none.
 pub first-unnamed : (before : Option StoreRange) (line : List ℕ) (lines : List (List ℕ)) → range_in line ≡ None → first_range before (line ∷ lines) ≡ None
 first-unnamed before line lines none = ap (λ (r : Option StoreRange). slice_get (rising before (some_prefix (r ∷ map range_in lines))) 0) none
 
@@ -104,13 +104,13 @@ pub none-rises : (before : Option StoreRange) (text : List ℕ) (n : ℕ) (range
 none-rises before text n range ends some named up =
     sym (ap (first_range before) (line-at text n ends some) ∙ first-falling before (take n text) (lines_of (drop (n + 1) text)) range (sym named) (sym up))
 
--- the lines behind the first
+-- the lines behind the first one
 pub lines-behind : (text rest : List ℕ) (n : ℕ) → n ≡ prefix_len in_line text → n < length text → rest ≡ drop (n + 1) text → lines_of rest ≡ drop 1 (lines_of text)
 lines-behind text rest n ends some is = ap lines_of is ∙ sym (ap (λ (ls : List (List ℕ)). drop 1 ls) (line-at text n ends some))
 
 -- ---- range after range
 
--- behind the first range come those behind it, of one line less
+-- Behind the first range come those of the lines behind, of one line less.
 pub ranges-next : (before : Option StoreRange) (n : ℕ) (lines : List (List ℕ)) (range : StoreRange) → first_range before lines ≡ Some range
     → ranges_in before (take (suc n) lines) ≡ range ∷ ranges_in (Some range) (take n (drop 1 lines))
 ranges-next before n [] range first = absurd (cc)

@@ -14,7 +14,7 @@ two-stores : ranges_of (codes "1 0 16 4\n1 32 8 36\n2 0 4 0\n") ≡ range 1 0 16
 unfolding range
 two-stores = refl
 
--- a line without its line feed is none
+-- A line without its line feed names none.
 cut-off : ranges_of (codes "1 0 16 4\n1 32 8 36") ≡ range 1 0 16 4 ∷ []
 unfolding range
 cut-off = refl
@@ -28,7 +28,8 @@ falling : ranges_of (codes "2 0 16 4\n1 8 8 36\n3 0 4 0\n") ≡ range 2 0 16 4 �
 unfolding range
 falling = refl
 
--- no line is one of three or five numbers, with two spaces, with a space at an end, or with what is no number
+-- These lines name no range: three numbers, five numbers, two spaces, a space at an end, and a word
+-- that is no number.
 three-numbers : ranges_of (codes "1 0 16\n2 0 16 0\n") ≡ []
 three-numbers = refl
 
@@ -49,7 +50,7 @@ greatest : ranges_of (codes "01 0 4294967295 0\n2 0 4294967296 0\n") ≡ range 1
 unfolding range
 greatest = refl
 
--- nor is an empty line
+-- An empty line names none either.
 empty-line : ranges_of (codes "1 0 16 4\n\n2 0 4 0\n") ≡ range 1 0 16 4 ∷ []
 unfolding range
 empty-line = refl

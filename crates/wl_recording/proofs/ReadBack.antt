@@ -1,4 +1,4 @@
--- A line that was written is read as what it was written of.
+-- A line is read as what it was written from.
 use Rattle.std.proofs.Common.{rules, ◌≡◌, ◌<◌, ◌+◌, ◌/◌, ◌%◌, ℕ, ℤ, Bool, true, false, not, List, [], ◌∷◌, ◌++◌, Option, Some, None, All, length, refl, ap, sym, ◌∙◌, subst, arith, inl, inr, append_assoc}
 use Rattle.std.specs.Prelude.{◌==◌, codes, nat_le, nat_lt, if◌then◌else◌, slice_index}
 use Rattle.std.specs.Option.{option_and_then, option_map}
@@ -15,7 +15,7 @@ use Rattle.wl_recording.proofs.Names.{all_three, all_words, named}
 use Rattle.wl_recording.proofs.Spelling.{bytes_in-pair, bytes_in-space}
 use Rattle.wl_recording.proofs.WordsOf.{IsWord, behind, behind_last, decimal_word, first_last, first_of, in_word, list_all-implies, number_is, signed_is, signed_word}
 
--- a hex digit
+-- A hex digit is no space.
 digit_isnt_space : (v : ℕ) → v < 16 → (hex_digit v == 32) ≡ false
 digit_isnt_space v small =
     elim (cases_lt v 10) [

@@ -1,4 +1,4 @@
--- A recording with one thing more.
+-- A recording with one more line.
 use Rattle.std.proofs.Common.{◌≡◌, ◌+◌, ◌-◌, ◌<◌, ◌≤◌, ℕ, true, false, List, [], ◌∷◌, ◌++◌, Option, Result, Ok, Err, length, take, refl, ap, sym, ◌∙◌, subst, arith, length-append, append-nil}
 use Rattle.std.specs.Prelude.{OnOk, flat_map, nat_lt}
 use Rattle.std.specs.Io.KnownBytes.{Appends}
@@ -10,7 +10,7 @@ use Rattle.wl_recording.specs.Line.{Asked}
 use Rattle.wl_recording.specs.Recording.{Holds, Recording, recording_of}
 use Rattle.wl_recording.specs.Written.{last_line, line_of}
 
--- fewer than it may have
+-- It has fewer lines than it may.
 recording-few : (most : ℕ) (asked : List Asked) → length asked < most → recording_of most asked ≡ flat_map line_of asked
 recording-few most asked few =
     let test : nat_lt (length asked) most ≡ true = lt-ltb (length asked) most few in
@@ -20,7 +20,7 @@ recording-few most asked few =
 one-more : (asked : List Asked) (a : Asked) → length (asked ++ a ∷ []) ≡ length asked + 1
 one-more asked a = length-append asked (a ∷ [])
 
--- a line more
+-- One more line is written.
 recording-more : (most : ℕ) (asked : List Asked) (a : Asked) → length asked + 1 < most → recording_of most (asked ++ a ∷ []) ≡ recording_of most asked ++ line_of a
 recording-more most asked a few =
     let len = one-more asked a in
@@ -28,7 +28,7 @@ recording-more most asked a few =
     recording-few most (asked ++ a ∷ []) (omega (arith, len, few))
     ∙ (flat_map-append line_of asked (a ∷ []) ∙ (ap (λ (t : List ℕ). flat_map line_of asked ++ t) (append-nil (line_of a)) ∙ ap (λ (t : List ℕ). t ++ line_of a) (sym old)))
 
--- the last line
+-- The last line is written.
 recording-last : (most : ℕ) (asked : List Asked) (a : Asked) → length asked + 1 ≡ most → recording_of most (asked ++ a ∷ []) ≡ recording_of most asked ++ last_line
 recording-last most asked a is =
     let len = one-more asked a in
@@ -37,7 +37,7 @@ recording-last most asked a is =
     let front : take (most - 1) (asked ++ a ∷ []) ≡ asked = take-append-le (most - 1) asked (a ∷ []) (omega (arith, is)) ∙ take_all (most - 1) asked (omega (arith, is)) in
     rw (test, front) (ap (λ (t : List ℕ). t ++ last_line) (sym old))
 
--- none more
+-- Nothing more is written.
 recording-full : (most : ℕ) (asked : List Asked) (a : Asked) → most ≤ length asked → recording_of most (asked ++ a ∷ []) ≡ recording_of most asked
 recording-full most asked a full =
     let len = one-more asked a in

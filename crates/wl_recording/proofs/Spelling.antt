@@ -6,7 +6,7 @@ use Rattle.std.proofs.lemmas.Bool.{ne_eqb}
 use Rattle.std.proofs.lemmas.List.{drop_more}
 use Rattle.wl_recording.specs.Line.{byte_of, before, bytes_in}
 
--- bytes before those that a text spells
+-- these bytes, and behind them those that a text spells
 abbrev pub after : List ℕ → Option (List ℕ) → Option (List ℕ)
 after front bytes = option_map (λ rest. front ++ rest) bytes
 

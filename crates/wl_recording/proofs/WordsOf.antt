@@ -19,7 +19,7 @@ pub record IsWord (word : List ℕ) : Type 0 where
   pub some : 0 < length word
   pub plain : list_all in_word word ≡ true
 
--- what passes one test passes another
+-- Bytes that pass one test pass another.
 pub list_all-implies : (p q : ℕ → Bool) → ((b : ℕ) → p b ≡ true → q b ≡ true) → (xs : List ℕ) → list_all p xs ≡ true → list_all q xs ≡ true
 list_all-implies p q implies [] all = refl
 list_all-implies p q implies (b ∷ xs) all =

@@ -1,4 +1,4 @@
--- A line that was written is one line, short enough, and is read as what it was written of.
+-- A line that was written is one line, is short enough, and is read as what it was written from.
 use Rattle.std.proofs.Common.{rules, ◌≡◌, ◌≤◌, ◌+◌, ◌*◌, ℕ, ℤ, pos, negsuc, suc, Bool, true, false, not, List, [], ◌∷◌, ◌++◌, Option, Some, All, length, refl, ap, sym, subst, ◌∙◌, arith, inl, inr, length-append}
 use Rattle.std.specs.Prelude.{◌==◌, ◌&&◌, ◌/◌, ◌%◌, codes, nat_le, nat_lt, slice_index}
 use Rattle.std.specs.List.{list_all}

@@ -25,12 +25,12 @@ seen-remove stores place = simp (map-append, take-map, drop-map)
 pub seen_push : (stores : List Kept) (s : Kept) → seen (stores ++ s ∷ []) ≡ seen stores ++ s.held ∷ []
 seen_push stores s = map_push (λ (k : Kept). k.held) stores s
 
--- a store in whose place one is put of which the same is seen
+-- a store is put in the place of one of which the same is seen
 pub seen-same : (stores : List Kept) (place : ℕ) (d new : Kept) → new.held ≡ (get_or stores place d).held → seen (set stores place new) ≡ seen stores
 seen-same stores place d new h =
     seen-set stores place new ∙ ap (set (seen stores) place) h ∙ sym (seen-set stores place (get_or stores place d)) ∙ ap seen (set-get_or stores place d)
 
--- the first store that passes a test of what is seen of it
+-- The first store that passes a test is found by what is seen of it.
 pub find-seen : (test : Held → Bool) (stores : List Kept) → find test (seen stores) ≡ option_map (λ k. k.held) (find (λ k. test k.held) stores)
 find-seen test [] = refl
 find-seen test (s ∷ ss) =
@@ -38,7 +38,7 @@ find-seen test (s ∷ ss) =
     as (λ b. cond b (Some s.held) (find test (seen ss)) ≡ option_map (λ k. k.held) (cond b (Some s) (find (λ k. test k.held) ss)))
     [ true ↦ refl | false ↦ find-seen test ss ]
 
--- its place
+-- so is its place
 position_or_len-seen : (number : ℕ) (stores : List Kept) → position_or_len (λ s. eqb s.number number) (seen stores) ≡ position_or_len (λ k. eqb k.held.number number) stores
 position_or_len-seen number [] = refl
 position_or_len-seen number (s ∷ ss) = rw (position_or_len-seen number ss)
@@ -46,7 +46,7 @@ position_or_len-seen number (s ∷ ss) = rw (position_or_len-seen number ss)
 pub position-seen : (number : ℕ) (stores : List Kept) → position (λ k. eqb k.held.number number) stores ≡ position (λ s. eqb s.number number) (seen stores)
 position-seen number stores = rw (position_or_len-seen number stores, length-map stores (λ (k : Kept). k.held))
 
--- a store that is found lends no more zeros than there are
+-- A store that is found lends no more zeros than there are.
 lends-test : (b : Bool) (many : ℕ) (s t : Kept) (rest : Option Kept) → zeros_lent s ≤ many → (rest ≡ Some t → zeros_lent t ≤ many) → cond b (Some s) rest ≡ Some t → zeros_lent t ≤ many
 lends-test true many s t rest h k e = let same : s ≡ t = cc in subst (λ (u : Kept). zeros_lent u ≤ many) same h
 lends-test false many s t rest h k e = k e
@@ -59,7 +59,7 @@ lends-found many test (t ∷ ts) s h e =
 lends-read : (many place : ℕ) (stores : List Kept) (s : Kept) → Lends many stores → place < length stores → s ≡ get_or stores place s → zeros_lent s ≤ many
 lends-read many place stores s h w e = subst (λ (k : Kept). zeros_lent k ≤ many) (sym e) (h place s w)
 
--- there may be more zeros
+-- More zeros do no harm.
 pub lends-more : (many more : ℕ) (stores : List Kept) → many ≤ more → Lends many stores → Lends more stores
 lends-more many more stores h k = All-weaker (λ u. zeros_lent u ≤ many) (λ u. zeros_lent u ≤ more) (λ u l. omega arith) stores k
 
@@ -68,7 +68,7 @@ lends-remove many place stores h =
     let P : Kept → Type 0 = λ u. zeros_lent u ≤ many in
     All-append P (take place stores) (drop (suc place) stores) (All-take P place stores h) (All-drop P (suc place) stores h)
 
--- what a store lends of which something is known
+-- what a store lends, by what is known of it
 lent-none : (s : Kept) (many : ℕ) → s.blank ≡ false → zeros_lent s ≤ many
 lent-none s many e = rw e (omega arith)
 
@@ -92,7 +92,7 @@ lends-same many place stores old new h w e b l =
     let lent : zeros_lent new ≡ zeros_lent old = rw (b, l) in
     All-set (λ u. zeros_lent u ≤ many) stores place new (omega (arith, lent, lends-read many place stores old h w e)) h
 
--- any zeros do where none but the store at the place was blank, and it is filled
+-- Any zeros do if only the store at the place was blank, and it is filled.
 pub lends-alone : (many place : ℕ) (stores : List Kept) (s : Kept) → IsNoneBlankBeside place stores → s.blank ≡ false → Lends many (set stores place s)
 lends-alone many place stores s h e = λ k d w.
     let within : k < length stores = omega (arith, length-set stores place s) in
@@ -101,19 +101,19 @@ lends-alone many place stores s h e = λ k d w.
       | inr q ↦ rw (get_or-set_other stores place k s d q) (lent-none (get_or stores k d) many (h k d within q))
     ]
 
--- a store put at a place
+-- a store is put at a place
 pub kept-set : (stores : List Kept) (made total many place : ℕ) (s : Kept) → IsSound (set (seen stores) place s.held) made total → Lends many (set stores place s)
     → IsKept (set stores place s) made total many
 kept-set stores made total many place s u l = record { sound = subst (λ (h : List Held). IsSound h made total) (sym (seen-set stores place s)) u; lends = l }
 
--- a store that grew in its place
+-- a store grows at its place
 pub grown-set : (size : ℕ) (stores : List Kept) (place : ℕ) (e new d : Kept) → place < length stores → new.held ≡ grown size (get_or stores place e).held
     → seen (set stores place new) ≡ set (seen stores) place (grown size (get_or stores place d).held)
 grown-set size stores place e new d h g =
     let grown_of : Kept → Held = λ k. grown size k.held in
     seen-set stores place new ∙ ap (set (seen stores) place) (g ∙ ap grown_of (get_or_default stores place e d h))
 
--- stores that a call left in a Vec of so many
+-- the stores that a call left in a Vec of so many
 pub left-is : (stores now : List Kept) (held : List Held) (len : ℕ) → len ≡ length stores → seen now ≡ held → length held ≡ length stores → take len (now ++ drop (length now) stores) ≡ now
 left-is stores now held len l e h = take_at now (drop (length now) stores) len (omega (arith, length-map now (λ (k : Kept). k.held), ap length e))
 
@@ -126,7 +126,7 @@ kept-left stores now held made total many len l e h u k =
 pub seen-left : (stores now : List Kept) (held : List Held) (len : ℕ) → len ≡ length stores → seen now ≡ held → length held ≡ length stores → seen (take len (now ++ drop (length now) stores)) ≡ held
 seen-left stores now held len l e h = ap seen (left-is stores now held len l e h) ∙ e
 
--- what is read there, of stores of which the same is seen
+-- what is read there; the same is seen of both lists
 pub left-read : (stores now : List Kept) (len place : ℕ) (s : Kept) → len ≡ length stores → seen now ≡ seen stores → s ≡ get_or (take len (now ++ drop (length now) stores)) place s → s ≡ get_or now place s
 left-read stores now len place s l e r = r ∙ ap (λ (ks : List Kept). get_or ks place s) (left-is stores now (seen stores) len l e (length-map stores (λ (k : Kept). k.held)))
 

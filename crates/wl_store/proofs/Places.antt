@@ -1,4 +1,4 @@
--- A store at its place: what a change there is of the whole list, where numbers rise.
+-- A store at its place: what changes of the whole list with it. The numbers rise there.
 use Rattle.std.proofs.Common.{◌≡◌, ℕ, zero, suc, ◌<◌, ◌≤◌, Bool, true, false, cond, not, List, [], ◌∷◌, Option, Some, None, length, get_or, set, map, arith, refl, ap, sym, eqb, ◌∙◌}
 use Rattle.std.specs.List.{filter, find, remove, position, position_or_len, slice_get}
 use Rattle.std.specs.Prelude.{nat_lt, IfSome, IfNone}
@@ -23,7 +23,7 @@ numbered-made : (low made : ℕ) (held : List Held) → IsNumbered low made held
 numbered-made low made [] n = n
 numbered-made low made (s ∷ ss) n = let given = numbered-made s.number made ss n.1 in omega (arith, n.0, given)
 
--- the numbers from a place on are above those before it
+-- The numbers from a place on are above those before it.
 pub numbered-above : (low made : ℕ) (held : List Held) (place : ℕ) (d : Held) → IsNumbered low made held → place < length held → low < (get_or held place d).number
 numbered-above low made [] place d n h = absurd (omega arith)
 numbered-above low made (s ∷ ss) zero d n h = n.0
@@ -31,13 +31,13 @@ numbered-above low made (s ∷ ss) (suc place) d n h =
     let rest = numbered-above s.number made ss place d n.1 (omega arith) in
     omega (arith, n.0, rest)
 
--- a change of a number that isn't there changes nothing
+-- A change of a number that isn't there changes nothing.
 map-miss : (number low made : ℕ) (f : Held → Held) (held : List Held) → number ≤ low → IsNumbered low made held → map (λ s. cond (eqb s.number number) (f s) s) held ≡ held
 map-miss number low made f [] h n = refl
 map-miss number low made f (s ∷ ss) h n =
     rw (above-number s number (omega (arith, n.0))) (ap (λ t. s ∷ t) (map-miss number s.number made f ss (omega (arith, n.0)) n.1))
 
--- a change at the place is the change of the store of that number
+-- A change at the place changes the store of that number.
 pub set-map : (number low made : ℕ) (f : Held → Held) (held : List Held) (place : ℕ) (x d : Held) → IsNumbered low made held → place < length held → (get_or held place d).number ≡ number
     → x ≡ f (get_or held place d)
     → set held place x ≡ map (λ s. cond (eqb s.number number) (f s) s) held
@@ -53,7 +53,7 @@ filter-miss number low made [] h n = refl
 filter-miss number low made (s ∷ ss) h n =
     rw (above-number s number (omega (arith, n.0))) (ap (λ t. s ∷ t) (filter-miss number s.number made ss (omega (arith, n.0)) n.1))
 
--- taking out the place is taking out the store of that number
+-- Taking out the place takes out the store of that number.
 pub remove-filter : (number low made : ℕ) (held : List Held) (place : ℕ) (d : Held) → IsNumbered low made held → place < length held → (get_or held place d).number ≡ number
     → remove held place ≡ filter (λ s. not (eqb s.number number)) held
 remove-filter number low made [] place d n h e = absurd (omega arith)
@@ -66,7 +66,7 @@ remove-filter number low made (s ∷ ss) (suc place) d n h e =
 pub no-store : Held
 no-store = record { number = 0; bytes = []; uses = 0 }
 
--- where the first store of the number lies is found by looking for it
+-- The place of the first store of the number is found by looking for it.
 pub place-found : (held : List Held) (number : ℕ) (place : Option ℕ) → place ≡ position (λ s. eqb s.number number) held → IfSome place (IsPlace held number)
 place-found held number None e = tt
 place-found held number (Some place) e =
@@ -90,17 +90,17 @@ place-absent held number None e =
     find_at has held ∙ slice_get_past held (position_or_len has held) beyond
 place-absent held number (Some place) e = tt
 
--- what is read at the place is the store of that number
+-- What is read at the place is the store of that number.
 pub place-reads : (held : List Held) (number place : ℕ) (s : Held) → IsPlace held number place → s ≡ get_or held place s → find (λ s. eqb s.number number) held ≡ Some s
 place-reads held number place s p e = p.found ∙ slice_get_read held (length held) place s refl p.within e
 
--- two reads at one place
+-- Two reads at one place are the same.
 pub reads-same : (held : List Held) (place : ℕ) (s t : Held) → place < length held → s ≡ get_or held place s → t ≡ get_or held place t → s ≡ t
 reads-same held place s t h e q =
     let both = sym (slice_get_read held (length held) place s refl h e) ∙ slice_get_read held (length held) place t refl h q in
     cc
 
--- a number above those that were given has no store
+-- A number above all that were given has no store.
 pub fresh : (number low made : ℕ) (held : List Held) → made < number → IsNumbered low made held → find (λ s. eqb s.number number) held ≡ None
 fresh number low made [] h n = refl
 fresh number low made (s ∷ ss) h n =

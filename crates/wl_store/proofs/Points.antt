@@ -19,7 +19,7 @@ scaled-below i n s some h =
     let le : s ≤ s = omega arith in
     omega (arith, row_fits i s (n / s) s h le, div-add-mod' n s)
 
--- exchanged twice
+-- Two exchanges change nothing.
 pub turned-back : (turned : Bool) (m n : ℕ) → cond turned (cond turned m n) (cond turned n m) ≡ m
 turned-back true m n = refl
 turned-back false m n = refl
@@ -36,7 +36,7 @@ turned-within Flipped90 w h i j c r = (r, c)
 turned-within Flipped180 w h i j c r = (c, omega arith)
 turned-within Flipped270 w h i j c r = (omega arith, omega arith)
 
--- and then scaled
+-- the same point, scaled
 pub point-within : (p : Shown) (i j : ℕ) → 1 ≤ p.scale → i < surface_width p → j < surface_height p
     → ((point_shown p i j).0 < p.layout.w) × ((point_shown p i j).1 < p.layout.h)
 point-within p i j some c r =
@@ -49,7 +49,7 @@ point-within p i j some c r =
       scaled-below at.1 p.layout.h p.scale some (subst (λ (n : ℕ). at.1 < n) (turned-back turned h w) b.1),
     )
 
--- the same of coordinates that were turned by what is kept of the picture
+-- a coordinate is turned by what is kept of the picture, and lies within the buffer
 pub column-within : (p : Shown) (t : Transform) (s x : ℕ) (sides : ℕ × ℕ) → t ≡ p.transform → s ≡ p.scale → 1 ≤ s
     → sides ≡ (surface_width p, surface_height p) → x < cond (is_turned t) sides.1 sides.0 → x * s < p.layout.w
 column-within p t s x sides turned scale some is h =

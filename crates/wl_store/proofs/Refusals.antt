@@ -1,4 +1,4 @@
--- Which calls nothing refuses, from the store that was found.
+-- What refuses a call, by the store that was found.
 use Rattle.std.proofs.Common.{◌≡◌, ℕ, ◌+◌, ◌-◌, ◌<◌, ◌≤◌, true, false, cond, List, [], ◌∷◌, ◌++◌, ◌||◌, replicate, length, Some, None, get_or, eqb, arith, ap, sym, ◌∙◌}
 use Rattle.std.specs.List.{find}
 use Rattle.std.specs.Option.{option_map}
@@ -14,7 +14,7 @@ pub store-read : (held : List Held) (made : ℕ) (stock : Stock) (number place :
     → store_at number stock ≡ Some s
 store-read held made stock number place s v p e = ap (store_at number) (sym v) ∙ place-reads held number place s p e
 
--- what is told of the store that was found
+-- the bytes of a store that was found
 pub bytes-found : (held : List Held) (made : ℕ) (stock : Stock) (number : ℕ) (s : Held) (bytes : List ℕ) → record { held = held; made = made } ≡ stock → find (λ s. eqb s.number number) held ≡ Some s
     → bytes ≡ s.bytes → Some bytes ≡ bytes_of number stock
 bytes-found held made stock number s bytes v e b = ap Some b ∙ ap (option_map (λ (t : Held). t.bytes)) (sym e) ∙ ap (bytes_of number) v
@@ -24,7 +24,7 @@ pub size-found : (held : List Held) (made : ℕ) (stock : Stock) (number : ℕ) 
     → Some size ≡ option_map (λ (t : Held). length t.bytes) (store_at number stock)
 size-found held made stock number s size v e l = ap Some l ∙ ap (option_map (λ (t : Held). length t.bytes)) (sym e) ∙ ap (λ st. option_map (λ (t : Held). length t.bytes) (store_at number st)) v
 
--- and of one that wasn't
+-- no bytes where none was found
 pub bytes-missing : (held : List Held) (made : ℕ) (stock : Stock) (number : ℕ) → record { held = held; made = made } ≡ stock → find (λ s. eqb s.number number) held ≡ None → bytes_of number stock ≡ None
 bytes-missing held made stock number v e = ap (bytes_of number) (sym v) ∙ ap (option_map (λ (t : Held). t.bytes)) e
 
@@ -55,11 +55,11 @@ write-refused stock number at count s e h = rw e (write-passes (length s.bytes) 
 lt-true : (n m : ℕ) → n < m → nat_lt n m ≡ true
 lt-true n m h = grind (arith, nat_tests)
 
--- a use more can't be counted
+-- No more use can be counted.
 pub held-out : (stock : Stock) (number : ℕ) (s : Held) → store_at number stock ≡ Some s → s.uses ≡ 4294967295 → false ≡ can_hold number stock
 held-out stock number s e h = rw (e, h)
 
--- it can
+-- One more can be counted.
 pub held-more : (stock : Stock) (number : ℕ) (s : Held) → store_at number stock ≡ Some s → s.uses < 4294967295 → true ≡ can_hold number stock
 held-more stock number s e h = rw (e, lt-true s.uses 4294967295 h)
 
@@ -69,34 +69,34 @@ le-true n m h = grind (arith, nat_tests)
 le-false : (n m : ℕ) → m < n → nat_le n m ≡ false
 le-false n m h = grind (arith, nat_tests)
 
--- the last use
+-- The last use goes, and the store with it.
 pub let_go-last : (stock : Stock) (number : ℕ) (s : Held) → store_at number stock ≡ Some s → s.uses ≤ 1 → let_go number stock ≡ without_store number stock
 let_go-last stock number s e h = rw (e, le-true s.uses 1 h)
 
--- one of more
+-- One use of several goes.
 pub let_go-other : (stock : Stock) (number : ℕ) (s : Held) → store_at number stock ≡ Some s → 1 < s.uses → let_go number stock ≡ with_change number (λ u. record u { uses = u.uses - 1 }) stock
 let_go-other stock number s e h = rw (e, le-false s.uses 1 h)
 
 pub live : (stock : Stock) (number : ℕ) (s : Held) → store_at number stock ≡ Some s → true ≡ is_some (store_at number stock)
 live stock number s e = rw e
 
--- what is refused while there is a place and a number left
+-- what refuses a new store, while there is a place and a number left
 pub create-refused : (held : List Held) (made total : ℕ) (stock : Stock) (size : ℤ) → record { held = held; made = made } ≡ stock → IsSound held made total → is_full stock ≡ false
     → create_refusal size stock ≡ new_refusal total size
 create-refused held made total stock size v u e = rw e (ap (λ n. new_refusal n size) (sym (u.summed ∙ ap total_size v)))
 
--- what is refused of the store that was read
+-- what refuses a new size, by the store that was read
 pub resize-refused : (held : List Held) (made total : ℕ) (stock : Stock) (number place : ℕ) (size : ℤ) (s : Held) → record { held = held; made = made } ≡ stock → IsSound held made total
     → IsPlace held number place → s ≡ get_or held place s
     → resize_refusal number size stock ≡ size_refusal total (length s.bytes) size
 resize-refused held made total stock number place size s v u p e =
     rw (store-read held made stock number place s v p e) (ap (λ n. size_refusal n (length s.bytes) size) (sym (u.summed ∙ ap total_size v)))
 
--- whether it can, by the uses that were read
+-- whether a use can be counted, by those that were read
 pub can-hold-read : (stock : Stock) (number uses : ℕ) (s : Held) → store_at number stock ≡ Some s → uses ≡ s.uses → nat_lt uses 4294967295 ≡ can_hold number stock
 can-hold-read stock number uses s e u = rw (u, e)
 
--- what wasn't found isn't there
+-- A store that wasn't found isn't there.
 pub not-there : (read held : List Held) (made : ℕ) (stock : Stock) (number : ℕ) → read ≡ held → record { held = held; made = made } ≡ stock
     → find (λ s. eqb s.number number) read ≡ None → store_at number stock ≡ None
 not-there read held made stock number r v e = ap (store_at number) (sym v) ∙ ap (find (λ s. eqb s.number number)) (sym r) ∙ e

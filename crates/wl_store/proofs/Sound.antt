@@ -1,4 +1,4 @@
--- What keeps the stores numbered and within the limits.
+-- Calls keep the stores numbered and within the limits.
 use Rattle.std.proofs.Common.{◌≡◌, ℕ, zero, suc, ◌+◌, ◌<◌, ◌≤◌, List, [], ◌∷◌, ◌++◌, length, get_or, set, map, cond, not, ◌-◌, eqb, ap, subst, false, None, ◌∙◌, arith}
 use Rattle.std.specs.Prelude.{◌||◌}
 use Rattle.std.proofs.lemmas.Bool.Decides.{nat_tests}
@@ -69,12 +69,12 @@ pub sound-changed : (held : List Held) (made total total' number place : ℕ) (o
 sound-changed held made total total' number place old new s p o e t small =
     sound-set held made total total' place new old s p.within (e ∙ ap (λ u. u.number) o) (omega (arith, t, ap (λ u. length u.bytes) o)) small
 
--- one that keeps the size
+-- a change that keeps the size
 pub sound-same : (held : List Held) (made total number place : ℕ) (old new : Held) → IsSound held made total → IsPlace held number place → old ≡ get_or held place old
     → new.number ≡ old.number → length new.bytes ≡ length old.bytes → IsSound (set held place new) made total
 sound-same held made total number place old new s p o e l = sound-changed held made total total number place old new s p o e (omega (arith, l)) s.small
 
--- it is the change of the store of that number
+-- it changes the store of that number
 pub changed-is : (held : List Held) (made total number place : ℕ) (f : Held → Held) (old new : Held) → IsSound held made total → IsPlace held number place → old ≡ get_or held place old
     → new ≡ f old → set held place new ≡ map (λ s. cond (eqb s.number number) (f s) s) held
 changed-is held made total number place f old new s p o e = set-map number 0 made f held place new old s.numbered p.within (p.numbered old) (e ∙ ap f o)
@@ -83,7 +83,7 @@ changed-is held made total number place f old new s p o e = set-map number 0 mad
 pub unchanged : (held : List Held) (place : ℕ) (old new : Held) → old ≡ get_or held place old → new ≡ old → set held place new ≡ held
 unchanged held place old new o e = ap (set held place) (e ∙ o) ∙ set-get_or held place old
 
--- the same where a store is taken out
+-- The stores stay sound as one is taken out.
 pub sound-removed : (held : List Held) (made total size number place : ℕ) (s : Held) → IsSound held made total → IsPlace held number place → s ≡ get_or held place s
     → size ≡ length s.bytes → IsSound (remove held place) made (total - size)
 sound-removed held made total size number place s u p e l =
@@ -93,7 +93,7 @@ sound-removed held made total size number place s u p e l =
 pub removed-is : (held : List Held) (made total number place : ℕ) → IsSound held made total → IsPlace held number place → remove held place ≡ filter (λ s. not (eqb s.number number)) held
 removed-is held made total number place s p = remove-filter number 0 made held place no-store s.numbered p.within (p.numbered no-store)
 
--- a store that grew to a size with which the total is still small
+-- a store grows to a size with which the total is within its limit
 pub sound-grown : (held : List Held) (made total present size number place : ℕ) (old new : Held) → IsSound held made total → IsPlace held number place → old ≡ get_or held place old
     → present ≡ length old.bytes → present ≤ size → total + size ≤ 268435456 + present → new ≡ record old { bytes = old.bytes ++ replicate (size - length old.bytes) 0 }
     → IsSound (set held place new) made (total - present + size)
@@ -106,7 +106,7 @@ sound-grown held made total present size number place old new s p o q h r e =
 not-full : (n made : ℕ) → n ≤ 64 → (eqb n 64 || eqb made 4294967295) ≡ false → n < 64
 not-full n made h e = grind (arith, nat_tests)
 
--- a store more, for which there is room
+-- one more store, for which there is room
 pub sound-made : (held : List Held) (made total size : ℕ) (stock : Stock) (x : Held) → record { held = held; made = made } ≡ stock → IsSound held made total → is_full stock ≡ false
     → total_size stock + size ≤ 268435456
     → x ≡ record { number = made + 1; bytes = replicate size 0; uses = 1 } → IsSound (held ++ x ∷ []) (made + 1) (total + size)

@@ -26,7 +26,7 @@ padded_twice old size bytes h k =
     ∙ ap (λ z. bytes ++ z) (replicate-append-replicate (old - length bytes) (size - old) 0)
     ∙ ap (λ n. bytes ++ zeros n) count
 
--- bytes with zeros put after them are those that are seen
+-- The bytes, with zeros put behind them, are those that are seen.
 pub refilled-is : (size len : ℕ) (was kept now : List ℕ) → length was ≤ size → kept ≡ was → len ≡ length kept → now ≡ take size kept ++ replicate (size - len) 0
     → now ++ replicate (size - length now) 0 ≡ was ++ replicate (size - length was) 0
 refilled-is size len was kept now h k l e =
@@ -34,14 +34,14 @@ refilled-is size len was kept now h k l e =
     let whole : length now ≡ size = ap length filled ∙ length-padded size was h in
     rw (whole, sub_self size, append-nil now) filled
 
--- the bytes that there are are no more than after the growth
+-- There are no more bytes than after the growth.
 pub within-grown : (number uses old size : ℕ) (was : List ℕ) (s : Held) → record { number = number; bytes = was ++ replicate (old - length was) 0; uses = uses } ≡ s → length was ≤ old → length s.bytes ≤ size
     → length was ≤ size
 within-grown number uses old size was s v h k =
     let had : length (padded old was) ≡ length s.bytes = ap (λ (t : Held). length t.bytes) v in
     omega (arith, had, length-padded old was h)
 
--- zeros at the end
+-- a store with zeros at its end
 pub grown-is : (number uses old size : ℕ) (was now : List ℕ) (s : Held) → record { number = number; bytes = was ++ replicate (old - length was) 0; uses = uses } ≡ s → length was ≤ old → length s.bytes ≤ size
     → now ++ replicate (size - length now) 0 ≡ was ++ replicate (size - length was) 0
     → record { number = number; bytes = now ++ replicate (size - length now) 0; uses = uses } ≡ record s { bytes = s.bytes ++ replicate (size - length s.bytes) 0 }
@@ -52,6 +52,6 @@ grown-is number uses old size was now s v h k e =
     let grown : Held → Held = λ t. record t { bytes = t.bytes ++ replicate (size - length t.bytes) 0 } in
     ap with_bytes (e ∙ sym (padded_twice old size was h within)) ∙ ap grown v
 
--- what is blank has no bytes yet
+-- A blank store has no bytes yet.
 pub blank-none : (size room : ℕ) (bytes : List ℕ) → HoldsBytes size room bytes → nat_lt (length bytes) size ≡ true → bytes ≡ []
 blank-none size room bytes h e = elim h [ inl none ↦ none.0 | inr whole ↦ absurd (grind (arith, nat_tests)) ]

@@ -1,4 +1,4 @@
--- What is kept stands for what was asked, once a tree is applied, and what is told of that is so.
+-- After a tree is applied, what is kept stands for what was asked, and what is told is so.
 use Rattle.std.proofs.Common.{◌≡◌, ℕ, ◌==◌, ◌||◌, Bool, true, false, cond, Option, Some, None, List, [], ◌∷◌, ◌++◌, map, refl, ap, sym, subst, ◌∙◌, arith}
 use Rattle.std.specs.Prelude.{◌&&◌, count_by, find, if◌then◌else◌, is_some, not}
 use Rattle.std.specs.List.{list_any}
@@ -121,7 +121,8 @@ any-none : (q : ℕ → Bool) (ns : List ℕ) → ((n : ℕ) → q n ≡ false) 
 any-none q [] none = refl
 any-none q (n ∷ ns) none = ap (λ b. b || list_any q ns) (none n) ∙ any-none q ns none
 
--- Those are freed that one of these surfaces showed, and none shows any more; the others show what they did.
+-- The freed buffers are those that one of these surfaces showed and none shows any more. The others
+-- show what they did.
 pub freed-so : (old now : Numbered) (below shown freed : List ℕ) → ((b : ℕ) → is_among shown b ≡ shown_among below old b)
     → ((n : ℕ) → is_among below n ≡ false → (b : ℕ) → shows_at b (now n) ≡ shows_at b (old n))
     → ((b : ℕ) (is : Bool) → IsAny (shows_at b) now is → count_by (λ n. n == b) freed ≡ cond (is_among shown b && not is) 1 0) → AreFreed freed old now
@@ -139,7 +140,7 @@ freed-so old now below shown freed candidates others counted b was is w i = coun
     same true false w i = ap (λ x. x && true) (there w.0 w.1 i (is_among below w.0) refl)
     same false false w i = ap (λ x. x && true) (candidates b ∙ any-none (λ n. shows_at b (old n)) below w)
 
--- ---- those that aren't applied
+-- ---- the surfaces that aren't applied
 
 pub unapplied : (below : List ℕ) (named : Numbered) (n : ℕ) → is_among below n ≡ false → applied_among below named n ≡ named n
 unapplied below named n e = ap (λ b. if b then option_map applying (named n) else named n) e
@@ -156,7 +157,7 @@ other-than below surface n there none = at (n == surface) refl
 
 module _ (slots new : Slots) (tied after : Tied) (all : Surfaces) (surface : ℕ) (below : List ℕ) (stand : Stand slots tied all)
     (those : (n : ℕ) → is_among below n ≡ is_under 16 (parents_of (links_in tied)) surface n) where
-  -- the buffers that it frees that a tree is applied
+  -- the buffers that applying a tree frees
   pub tree-freed : (shown freed : List ℕ) → ((b : ℕ) → is_among shown b ≡ shown_among below (numbered all) b)
       → ((b : ℕ) (is : Bool) → IsAny (shows_at b) (numbered (applied_tree levels surface all)) is → count_by (λ n. n == b) freed ≡ cond (is_among shown b && not is) 1 0)
       → AreFreed freed (numbered all) (numbered (applied_tree levels surface all))

@@ -1,4 +1,4 @@
--- What is kept stands for what was asked, after what is asked of one surface by itself.
+-- After a request on one surface by itself, what is kept stands for what was asked.
 use Rattle.std.proofs.Common.{◌≡◌, ℕ, ◌==◌, Bool, true, false, cond, Option, Some, None, [], ◌∷◌, refl, ap, sym, subst, ◌∙◌, arith}
 use Rattle.std.specs.Prelude.{is_some}
 use Rattle.std.specs.Option.{option_or}

@@ -13,7 +13,7 @@ use Rattle.wl_store.specs.Transform.{buffer_point, is_turned}
 
 -- ---- quotients
 
--- a number is in its block: from the quotient's multiple to before the next one
+-- A number is in its block, from the quotient's multiple to before the next one.
 block-begins : (n k : ℕ) → (n / k) * k ≤ n
 block-begins n k = omega (arith, div-add-mod' n k)
 
@@ -51,29 +51,30 @@ pub record IsHeld (limit : ℕ) (place : ℤ) (at : ℕ) : Type 0 where
   pub within : pos 0 ≤ℤ place → place ≤ℤ pos limit → pos at ≡ place
   pub beyond : pos limit ≤ℤ place → at ≡ limit
 
--- so it is told
+-- A place is held by what is told of it.
 pub held-as : {given : ℤ} (limit : ℕ) (place : ℤ) (at : ℕ) → (given ≤ℤ pos 0 → at ≡ 0) → (pos 0 ≤ℤ given → given ≤ℤ pos limit → pos at ≡ given) → (pos limit ≤ℤ given → at ≡ limit)
     → given ≡ place → IsHeld limit place at
 held-as limit place at below within beyond e = subst (λ (z : ℤ). IsHeld limit z at) e (record { below = below; within = within; beyond = beyond })
 
--- by where the place is
+-- the three cases: where the place is
 by_place : {P : Type 0} (limit : ℕ) (place : ℤ) (at : ℕ) → IsHeld limit place at
     → (place ≤ℤ pos 0 → at ≡ 0 → P) → (pos at ≡ place → P) → (pos limit ≤ℤ place → at ≡ limit → P) → P
 by_place limit place at held low between high =
     by_lt_z place (pos 0) (λ l. let le : place ≤ℤ pos 0 = omega (arith, ints) in low le (held.below le))
     (λ ge. by_lt_z (pos limit) place (λ l. let le : pos limit ≤ℤ place = omega (arith, ints) in high le (held.beyond le)) (λ le. between (held.within ge le)))
 
--- it comes before a number from 1 to the limit exactly where its place does
+-- The held place comes before a number from 1 to the limit exactly if the place does.
 held-before : (limit : ℕ) (place : ℤ) (at n : ℕ) → IsHeld limit place at → 0 < n → n ≤ limit → int_lt place (pos n) ≡ nat_lt at n
 held-before limit place at n held some within =
     by_place limit place at held (λ le e. grind (arith, ints, nat_tests)) (λ e. grind (arith, ints, nat_tests)) (λ ge e. grind (arith, ints, nat_tests))
 
--- a number below the limit comes before it exactly where it comes before its place
+-- A number below the limit comes before the held place exactly if it comes before the place.
 before-held : (limit : ℕ) (place : ℤ) (at n : ℕ) → IsHeld limit place at → n < limit → int_lt (pos n) place ≡ nat_lt n at
 before-held limit place at n held within =
     by_place limit place at held (λ le e. grind (arith, ints, nat_tests)) (λ e. grind (arith, ints, nat_tests)) (λ ge e. grind (arith, ints, nat_tests))
 
--- two of them are ordered as their places, where the first isn't at the limit and the second isn't at 0
+-- Two held places are ordered as the places, if the first isn't at the limit and the second isn't
+-- at 0.
 both-held : (limit : ℕ) (start end : ℤ) (from to : ℕ) → IsHeld limit start from → IsHeld limit end to → from < limit → 0 < to → int_lt start end ≡ nat_lt from to
 both-held limit start end from to first last less some =
     by_place limit start from first
@@ -91,7 +92,7 @@ ordered-and s l true false g e h = rw e (grind arith)
 ordered-and s l false true g e h = rw e (grind arith)
 ordered-and s l false false g e h = rw e (grind arith)
 
--- a span overlaps a block exactly where the held one does
+-- A span overlaps a block exactly if the held one does.
 overlap-held : (limit : ℕ) (start end : ℤ) (from to a b : ℕ) → IsHeld limit start from → IsHeld limit end to → a < b → b ≤ limit
     → overlap start end (pos a) (pos b) ≡ ((nat_lt from to && nat_lt from b) && nat_lt a to)
 overlap-held limit start end from to a b first last less within =
@@ -103,7 +104,7 @@ overlap-held limit start end from to a b first last less within =
 between-tests : (first last z : ℕ) → first ≤ last → in_span (pos first) (pos (last - first + 1)) (pos z) ≡ (nat_lt first (z + 1) && nat_lt z (last + 1))
 between-tests first last z le = grind (arith, ints, nat_tests)
 
--- the blocks that a span meets are those from the one of its first number to the one of its last
+-- The blocks that a span meets are those from its first number's to its last one's.
 pub meets-blocks : (start end : ℤ) (limit from to k scale side z : ℕ) → 1 ≤ k → k ≡ scale → limit ≡ side * k → IsHeld limit start from → IsHeld limit end to → from < to → z < side
     → in_span (pos (from / k)) (pos ((to - 1) / k - from / k + 1)) (pos z) ≡ overlap start end (pos (z * scale)) (pos (z * scale + scale))
 meets-blocks start end limit from to k scale side z one same wide first last some less =
@@ -116,7 +117,7 @@ meets-blocks start end limit from to k scale side z one same wide first last som
     (between-tests (from / k) ((to - 1) / k) z (quotients-ordered from (to - 1) k one (omega arith))
     ∙ sym (meets ∙ rw (passed, ends-past from k z one, simp next at begun) refl))
 
--- a span without numbers meets none
+-- A span without numbers meets no block.
 pub meets-none : (start end : ℤ) (limit from to k scale side z : ℕ) → 1 ≤ k → k ≡ scale → limit ≡ side * k → IsHeld limit start from → IsHeld limit end to → to ≤ from → z < side
     → in_span (pos 0) (pos 0) (pos z) ≡ overlap start end (pos (z * scale)) (pos (z * scale + scale))
 meets-none start end limit from to k scale side z one same wide first last none less =

@@ -6,7 +6,7 @@ use Rattle.wl_surface.specs.Kept.{Kept, StandsFor}
 use Rattle.wl_surface.specs.Slots.{StandsAt}
 use Rattle.wl_surface.specs.Surface.{Surface}
 
--- a surface that stands for one tells of it, and none tells of none
+-- What stands for a surface tells of it. Without a surface nothing is told.
 pub applied-some : {A : Type 0} (number : ℕ) (k : Kept) (at : Option Surface) (c : Change A) → StandsAt (Some k) at → ((s : Surface) → StandsFor k s → IsApplied number s.history c)
     → AreApplied number at (Some c)
 applied-some number k None c t tells = absurd (t)

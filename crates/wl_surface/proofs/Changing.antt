@@ -7,7 +7,7 @@ use Rattle.wl_surface.specs.Surfaces.{Link, Surfaces, history_in, link_at}
 use Rattle.wl_surface.specs.Hanging.{AreNumbered, AreTied}
 use Rattle.wl_surface.specs.TreeLaws.{AreOnceLinked, is_live_of}
 
--- A change of a link that keeps its child and its parent, and makes none live that had ended.
+-- A change of a link keeps its child and its parent, and makes no ended link live.
 pub record KeepsLink (f : Link → Link) : Type 0 where
   pub number : (l : Link) → (f l).number ≡ l.number
   pub child : (l : Link) → (f l).child ≡ l.child
@@ -39,7 +39,7 @@ changed-ended : (b : Bool) (f : Link → Link) (l : Link) → KeepsLink f → l.
 changed-ended true f l keeps e = keeps.ended l e
 changed-ended false f l keeps e = e
 
--- where some change and others stay, each keeps what it has
+-- Some links change and others stay; each keeps what it has.
 pub keeps-where : (which : Link → Bool) (f : Link → Link) → KeepsLink f → KeepsLink (λ l. cond (which l) (f l) l)
 keeps-where which f keeps = record {
   number = λ l. changed-number (which l) f l (keeps.number l);
@@ -70,7 +70,7 @@ module _ (g : Link → Link) (keeps : KeepsLink g) where
   numbered-each [] apart = tt
   numbered-each (x ∷ xs) apart = (ap (λ m. list_any (λ l. l.number == m) (map g xs)) (keeps.number x) ∙ (numbered-none x.number xs ∙ apart.0), numbered-each xs apart.1)
 
-  -- none lives that had ended
+  -- No ended link lives again.
   pub none-live : (c : ℕ) (ls : List Link) → list_any (is_live_of c) ls ≡ false → list_any (is_live_of c) (map g ls) ≡ false
   none-live c [] none = refl
   none-live c (x ∷ xs) none =
@@ -82,7 +82,7 @@ module _ (g : Link → Link) (keeps : KeepsLink g) where
       fewer false true same ends none = refl
       fewer false false same ends none = none
 
-  -- a link that lives did so before
+  -- A link that lives lived before.
   lived : (l : Link) (b : Bool) → l.has_ended ≡ b → (g l).has_ended ≡ false → l.has_ended ≡ false
   lived l false e lives = e
   lived l true e lives = absurd (let both = sym (keeps.ended l e) ∙ lives in cc)
@@ -94,7 +94,7 @@ module _ (g : Link → Link) (keeps : KeepsLink g) where
     once-each xs once.1,
   )
 
-  -- a link that changed is what it was made of
+  -- A changed link is what it was made from.
   pub record WasLink (o : Option Link) (new : Link) : Type 0 where
     pub old : Link
     pub here : o ≡ Some old

@@ -1,4 +1,4 @@
--- What is kept of how surfaces hang together, once trees are applied, and surfaces come and go.
+-- What is kept of how surfaces hang together, after trees are applied and surfaces come and go.
 use Rattle.std.proofs.Common.{◌≡◌, ℕ, ◌≤◌, ◌⊎◌, inl, inr, ◌==◌, Bool, true, false, cond, Option, Some, None, List, [], ◌∷◌, map, refl, ap, sym, subst, ◌∙◌, arith}
 use Rattle.std.specs.Prelude.{pos, filter, find, not, if◌then◌else◌}
 use Rattle.std.specs.Option.{option_map, option_or}
@@ -109,7 +109,7 @@ history-new n id all =
     at None true = refl
     at None false = refl
 
--- what was asked of a surface is what was, or nothing
+-- What was asked of a surface is what was asked before, or nothing.
 record WasThere (o : Option History) (b : Bool) (new : History) : Type 0 where
   which : (o ≡ Some new) ⊎ (nothing_asked ≡ new)
 
@@ -191,7 +191,7 @@ history-without n id all = ap (option_map (λ s. s.history)) (find-without n id 
     at true o = refl
     at false o = refl
 
--- all is as it should be without a surface that is no parent by a link that lives
+-- All is as it should be without a surface that is no parent by a living link.
 pub tied-without : (all : Surfaces) (id : ℕ) → ((number : ℕ) (link : Link) → link_at number all ≡ Some link → link.has_ended ≡ false → (link.parent == id) ≡ false) → AreTied all
     → AreTied (without_surface id all)
 tied-without all id apart tied = record {

@@ -21,7 +21,7 @@ use Rattle.wl_surface.specs.Tree.{IsCommitTold, IsTold, IsToldUnless, applied_am
 use Rattle.wl_surface.proofs.Applying.{freed-so, itself-below, numbered-so, other-than, tree-stands, unapplied}
 use Rattle.wl_surface.proofs.Standing.{numbered-changed, stand-changed, there-changed}
 
--- what a commit makes of the surfaces before they are applied
+-- what a commit makes of the surfaces, before they are applied
 abbrev pub held : ℕ → Surfaces → Surfaces
 held surface all = with_change surface (asking Commit) all
 
@@ -77,7 +77,7 @@ module _ (slots mid new : Slots) (tied between after : Tied) (all : Surfaces) (s
       (λ n none b. ap (λ (named : Numbered). shows_at b (named n)) now-numbered ∙ ap (shows_at b) (unapplied below (numbered (held surface all)) n none)
       ∙ ap (shows_at b) (still-other surface n all (other-than below surface n (itself-below mid new between after (held surface all) surface below mid-stands mid-those) none))) counted
 
--- it behaves synchronised by what is kept where it does by definition
+-- A surface behaves synchronised by what is kept exactly if it does by definition.
 pub same-mode : (slots : Slots) (tied : Tied) (all : Surfaces) (surface : ℕ) → Stand slots tied all → behaves_synchronised levels all surface ≡ behaves_by 17 (links_in tied) surface
 same-mode slots tied all surface stand = same-modes all 17 surface ∙ ap (λ (links : Links). behaves_by 17 links surface) (sym (fun_ext stand.hang.0.links))
 

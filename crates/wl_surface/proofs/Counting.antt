@@ -1,4 +1,5 @@
--- Which frame requests count: after a commit, after other requests, and those that the next frame answers.
+-- Which frame requests count after a commit and after other requests, and which the next frame
+-- answers.
 use Rattle.std.proofs.Common.{◌≡◌, ℕ, ◌==◌, ◌||◌, List, [], ◌∷◌, ◌++◌, Bool, true, false, cond, Option, Some, None, map, refl, ap, sym, subst, ◌∙◌, arith}
 use Rattle.std.specs.Prelude.{find}
 use Rattle.std.specs.Option.{option_map}
@@ -29,7 +30,7 @@ or-false : (b : Bool) → (b || false) ≡ b
 or-false true = refl
 or-false false = refl
 
--- ---- nothing changes of what was asked for and of what counts
+-- ---- what was asked and what counts stay
 
 module _ (all now : Numbered) (asked : (number : ℕ) → frames_at (now number) ≡ frames_at (all number)) (counts : (number : ℕ) → counted_at (now number) ≡ counted_at (all number)) where
   waits-same : (w : Waiting) (c : Callback) → IsWaiting w all c → IsWaiting w now c
@@ -46,7 +47,7 @@ module _ (all now : Numbered) (asked : (number : ℕ) → frames_at (now number)
   waiting-same (w ∷ ws) [] t = absurd t
   waiting-same (w ∷ ws) (c ∷ cs) t = (waits-same w c t.0, waiting-same ws cs t.1)
 
--- a request that asks for no frame
+-- a request other than a frame request
 frames-last : (rs : List Request) (r : Request) → frames_of (r ∷ []) ≡ [] → frames_of (rs ++ r ∷ []) ≡ frames_of rs
 frames-last rs r e = flat_map-append _ rs (r ∷ []) ∙ ap (λ ns. frames_of rs ++ ns) e ∙ append-nil (frames_of rs)
 
@@ -73,7 +74,7 @@ counts-still r e slot at t = both (held-still r e slot at t) (applied-still r sl
     both : {a b c d : List ℕ} → a ≡ b → c ≡ d → ◌≡◌ {A = List ℕ × List ℕ} (a, c) (b, d)
     both {b} {c} e f = ap (λ (x : List ℕ). pair x c) e ∙ ap (λ (y : List ℕ). pair b y) f
 
--- one surface changes, of which neither does
+-- One surface changes, but not what is read of it.
 pub at-one : {X : Type 0} (read : Option Surface → X) (surface : ℕ) (change : Surface → Surface) (all : Numbered) → read (option_map change (all surface)) ≡ read (all surface)
     → (number : ℕ) → read (changed_at surface change all number) ≡ read (all number)
 at-one read surface change all e number = by (number == surface) refl
@@ -82,7 +83,7 @@ at-one read surface change all e number = by (number == surface) refl
     by true is = subst (λ k. read (option_map change (all k)) ≡ read (all k)) (sym (eqb-true number surface is)) e
     by false is = refl
 
--- a surface comes, of which nothing was asked
+-- A surface comes of which nothing was asked.
 pub at-new : {X : Type 0} (read : Option Surface → X) (surface id : ℕ) (all : Numbered) → all surface ≡ None → read (Some (new_surface id)) ≡ read None
     → (number : ℕ) → read (with_at surface (Some (new_surface id)) all number) ≡ read (all number)
 at-new read surface id all none e number = by (number == surface) refl
@@ -91,7 +92,7 @@ at-new read surface id all none e number = by (number == surface) refl
     by true is = e ∙ ap read (sym none) ∙ ap (λ k. read (all k)) (sym (eqb-true number surface is))
     by false is = refl
 
--- a surface gets its role
+-- A surface gets its role.
 pub asked-in-role : (role : Role) (at : Option Surface) → frames_at (option_map (with_role role) at) ≡ frames_at at
 asked-in-role role None = refl
 asked-in-role role (Some s) = refl

@@ -9,12 +9,12 @@ use Rattle.wl_geom.specs.declared.rect.Rect.{Rect}
 use Rattle.wl_surface.specs.Request.{Request, Commit}
 use Rattle.wl_surface.specs.State.{between, committed}
 
--- what is damaged since a place, with one request more
+-- the damage since a place, with one more request
 damaged-last : (f : Request → List Rect) (n : ℕ) (rs : List Request) (r : Request) → n ≤ length rs
     → flat_map f (drop n (rs ++ r ∷ [])) ≡ flat_map f (drop n rs) ++ flat_map f (r ∷ [])
 damaged-last f n rs r le = ap (flat_map f) (drop-append-le n rs (r ∷ []) le) ∙ flat_map-append f (drop n rs) (r ∷ [])
 
--- the same of the first of it, where the place is still that
+-- the same, of its first rectangles; the place stays
 pub damage-more : (f : Request → List Rect) (n m : ℕ) (rs : List Request) (r : Request) → n ≤ length rs → m ≡ n
     → take 1025 (flat_map f (drop n rs) ++ flat_map f (r ∷ [])) ≡ take 1025 (flat_map f (drop m (rs ++ r ∷ [])))
 damage-more f n m rs r le e =
@@ -35,7 +35,7 @@ take-fewer (suc n) m (x ∷ xs) ys le = ap (λ zs. x ∷ zs) (take-fewer n m xs 
 take-both : {X : Type 0} (n : ℕ) (xs ys : List X) → take n (take n xs ++ take n ys) ≡ take n (xs ++ ys)
 take-both n xs ys = take-fewer n n xs ys (omega arith)
 
--- one more, where there is room, or else none
+-- one more rectangle if there is room, or else none
 take-all-one : {X : Type 0} (n : ℕ) (x : X) → take (suc n) (x ∷ []) ≡ x ∷ []
 take-all-one zero x = refl
 take-all-one (suc n) x = refl
@@ -50,7 +50,7 @@ take-none zero xs x le = refl
 take-none (suc n) [] x le = absurd (omega arith)
 take-none (suc n) (y ∷ xs) x le = ap (λ zs. y ∷ zs) (take-none n xs x (omega arith))
 
--- what is since the cut is up to the last commit, or after it
+-- What is asked since the cut is asked up to the last commit, or after it.
 parted : (n m : ℕ) (rs : List Request) → n ≤ m → m ≤ length rs → drop n rs ≡ drop n (take m rs) ++ drop m rs
 parted n m rs le within =
     let fits : n ≤ length (take m rs) = let l = length-take m rs in omega (arith, l, le, within) in
@@ -71,11 +71,11 @@ damage-joined f held pending cut rs within commits is fresh none =
 
 -- ---- what is told of both kinds
 
--- of more than 1,024 each point is damaged
+-- Of more than 1,024 rectangles each point is damaged.
 told-many : (n m : ℕ) (a b : Bool) → (1024 < n → 1024 < m) → (1024 < m → 1024 < n) → (m ≤ 1024 → a ≡ b) → cond (nat_lt 1024 n) true a ≡ cond (nat_lt 1024 m) true b
 told-many n m a b to from same = grind (arith, nat_tests)
 
--- damage of rectangles of a surface, and of those of its buffer, as the first of both tell it
+-- the damage of a surface's rectangles and of its buffer's, as the first of both tell it
 module _ (inside : Rect → Bool) (meeting : Rect → Bool) (own of_buffer held held_of_buffer told : List Rect) (is : held ≡ take 1025 own) (is_of_buffer : held_of_buffer ≡ take 1025 of_buffer)
     (count : length told ≡ length held + length held_of_buffer) where
   few : length own + length of_buffer ≤ 1024 → list_any inside told ≡ (list_any inside held || list_any meeting held_of_buffer)

@@ -1,4 +1,4 @@
--- What stands below a surface, once some links are gone.
+-- What stands below a surface after some links are gone.
 use Rattle.std.proofs.Common.{◌≡◌, ℕ, zero, suc, ◌⊎◌, inl, inr, ◌||◌, ◌==◌, Bool, true, false, cond, Option, Some, None, refl, ap, sym, subst, ◌∙◌, eq-eqb}
 use Rattle.std.specs.Option.{option_map_or}
 use Rattle.std.proofs.lemmas.Bool.{eqb-true}
@@ -31,11 +31,11 @@ under-cases n parents top surface under = at (surface == top) refl (parents surf
     at false e None f is = absurd (cc)
     at false e (Some parent) f is = inr (parent, f, is)
 
--- each surface has the parent that it has by the others, or none
+-- Each surface has the same parent as by the other links, or none.
 abbrev pub AreFewer : Parents → Parents → Type 0
 AreFewer fewer parents = (surface : ℕ) → (fewer surface ≡ None) ⊎ (fewer surface ≡ parents surface)
 
--- by more links no less stands below a surface
+-- By more links no fewer surfaces stand below.
 pub under-fewer : (n : ℕ) (fewer parents : Parents) (top surface : ℕ) → AreFewer fewer parents → is_under n fewer top surface ≡ true → is_under n parents top surface ≡ true
 under-fewer zero fewer parents top surface are under =
     subst (λ s. is_under zero parents top s ≡ true) (sym (under-zero fewer top surface under)) (under-here zero parents top)
@@ -48,7 +48,7 @@ under-fewer (suc n) fewer parents top surface are under =
     at (inr q) (inl none) next = absurd (let both = sym none ∙ q.1 in cc)
     at (inr q) (inr same) next = under-step n parents top surface q.0 (sym same ∙ q.1) (next q.0 q.2)
 
--- nor does it by more levels that are looked at
+-- By more levels no fewer do.
 pub under-more : (n : ℕ) (parents : Parents) (top surface : ℕ) → is_under n parents top surface ≡ true → is_under (suc n) parents top surface ≡ true
 under-more zero parents top surface under = subst (λ s. is_under 1 parents top s ≡ true) (sym (under-zero parents top surface under)) (under-here 1 parents top)
 under-more (suc n) parents top surface under = at (under-cases n parents top surface under) (λ s. under-more n parents top s)
@@ -57,7 +57,7 @@ under-more (suc n) parents top surface under = at (under-cases n parents top sur
     at (inl e) next = subst (λ s. is_under (suc (suc n)) parents top s ≡ true) (sym e) (under-here (suc (suc n)) parents top)
     at (inr q) next = under-step (suc n) parents top surface q.0 q.1 (next q.0 q.2)
 
--- what stands below a child stands below its parent, by a link more
+-- What stands below a child stands below its parent, by one more link.
 pub under-parent : (n : ℕ) (parents : Parents) (child top surface : ℕ) → parents child ≡ Some top → is_under n parents child surface ≡ true → is_under (suc n) parents top surface ≡ true
 under-parent zero parents child top surface is under =
     under-step zero parents top surface top (ap parents (under-zero parents child surface under) ∙ is) (under-here zero parents top)
@@ -67,7 +67,7 @@ under-parent (suc n) parents child top surface is under = at (under-cases n pare
     at (inl e) next = under-step (suc n) parents top surface top (ap parents e ∙ is) (under-here (suc n) parents top)
     at (inr q) next = under-step (suc n) parents top surface q.0 q.1 (next q.0 q.2)
 
--- what stands below a surface stands below a child of it, by links that have nothing to do with the surface
+-- What stands below a surface stands below a child of it, by links without the surface.
 pub record IsByChild (n : ℕ) (parents : Parents) (top surface : ℕ) : Type 0 where
   pub child : ℕ
   pub up : parents child ≡ Some top

@@ -21,7 +21,7 @@ none-of : {X : Type 0} (o : Option X) → is_some o ≡ false → o ≡ None
 none-of None e = refl
 none-of (Some x) e = absurd (cc)
 
--- a link that lives is kept
+-- A living link is kept.
 pub never-none : {X : Type 0} (slots : Slots) (tied : Tied) (all : Surfaces) (number child : ℕ) (link : Link) (kept : Option KeptLink) → IsLink all number child link → Stand slots tied all
     → kept ≡ links_in tied child → is_some kept ≡ false → X
 never-none slots tied all number child link kept is stand e none =
@@ -129,7 +129,7 @@ module _ (slots : Slots) (tied mid : Tied) (all : Surfaces) (number child : ℕ)
         by true true d f = refl
         by true false d f = absurd (cc)
 
--- it behaved synchronised, and doesn't any more; or it stays as it was
+-- The child behaved synchronised and doesn't any more, or it is as it was.
 pub goes : (was now : Bool) → was ≡ true → now ≡ false → (not was || now) ≡ false
 goes true false e f = refl
 goes true true e f = absurd (cc)

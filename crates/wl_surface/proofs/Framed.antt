@@ -1,4 +1,4 @@
--- A frame request more waits.
+-- One more frame request waits.
 use Rattle.std.proofs.Common.{◌≡◌, ℕ, ◌==◌, ◌||◌, List, [], ◌∷◌, ◌++◌, Bool, true, false, cond, Option, Some, None, drop, take, refl, ap, sym, subst, ◌∙◌, arith, take-append-drop}
 use Rattle.std.specs.Prelude.{is_some}
 use Rattle.std.specs.List.{list_any}
@@ -30,7 +30,7 @@ or-here false x e = ap (λ y. y || false) e
 same-number : (n : ℕ) → (n == n) ≡ true
 same-number n = grind (arith)
 
--- another one is asked of the surface
+-- Another request is asked of the surface.
 other-asked : (n : ℕ) (at : Option Surface) (c : Callback) → (n == c.number) ≡ false → is_in (frames_at (option_map (asking (Frame n)) at)) c ≡ is_in (frames_at at) c
 other-asked n None c differs = refl
 other-asked n (Some s) c differs =
@@ -56,7 +56,7 @@ or-false-right : (b x : Bool) → (b || x) ≡ false → x ≡ false
 or-false-right true x e = absurd (cc)
 or-false-right false x e = e
 
--- one that wasn't asked isn't held, and doesn't count
+-- A request that wasn't asked isn't held, and doesn't count.
 unasked : (c : Callback) (cut : ℕ) (rs : List Request) → is_in (frames_of rs) c ≡ false → is_in (frames_of (take cut rs)) c ≡ false
 unasked c cut rs e =
     let parts : frames_of rs ≡ frames_of (take cut rs) ++ frames_of (drop cut rs) = ap frames_of (sym (take-append-drop cut rs)) ∙ flat_map-append _ (take cut rs) (drop cut rs) in

@@ -41,7 +41,7 @@ either-most (suc a) (suc b) = at (either-most a b)
     at (inl e) = inl (max-eq_left (omega (arith, le-max_right a b, e)))
     at (inr e) = inr (max-eq_right (omega (arith, le-max_left a b, e)))
 
--- what it was, or that of one of them
+-- the number it was, or that of one of them
 abbrev Reached : (ℕ → ℕ) → ℕ → List ℕ → ℕ → Type 0
 Reached f a xs m = (m ≡ a) ⊎ ((x : ℕ) × (list_any (λ y. x == y) xs ≡ true) × (m ≡ f x))
 
@@ -169,7 +169,7 @@ module _ (all : Surfaces) (places : List Place) (once : AreOnceLinked all.links)
             as_deep = let it = far.as_deep in omega (arith, e, it, up);
           }
 
-  -- so many links are enough
+  -- So many links are enough to reach it.
   within-links : (n m top surface : ℕ) → descends_from n all top surface ≡ true → deep surface ≤ deep top + m → descends_from m all top surface ≡ true
   within-links n m top surface under close =
       same-descent all m top surface ∙ near parents places stand within n m top surface (sym (same-descent all n top surface) ∙ under) close

@@ -1,4 +1,4 @@
--- What is kept of how surfaces hang together, once a child is joined to a parent.
+-- What is kept of how surfaces hang together, after a child is joined to a parent.
 use Rattle.std.proofs.Common.{◌≡◌, ℕ, ◌≤◌, ◌⊎◌, inl, inr, ◌||◌, ◌&&◌, ◌==◌, Bool, true, false, cond, Option, Some, None, List, [], ◌∷◌, ◌++◌, take, refl, ap, sym, subst, ◌∙◌, arith, eq-eqb}
 use Rattle.std.specs.Prelude.{pos, find, not, if◌then◌else◌}
 use Rattle.std.specs.List.{list_any}
@@ -63,7 +63,7 @@ numbered-more number new (x ∷ xs) is none apart = (
     other true e f = absurd (cc)
     other false e f = grind (arith, e)
 
--- a link that is found once there is one more
+-- a link that is found among one more
 record FoundMore (o : Option Link) (b : Bool) (new found : Link) : Type 0 where
   which : ((o ≡ Some found) × Unit {0}) ⊎ ((o ≡ None) × (b ≡ true) × (new ≡ found))
 

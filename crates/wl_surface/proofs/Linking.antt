@@ -1,4 +1,4 @@
--- What is kept of how surfaces hang together, once links come, end or change their mode.
+-- What is kept of how surfaces hang together, after links come, end or change their mode.
 use Rattle.std.proofs.Common.{◌≡◌, ℕ, ◌||◌, ◌&&◌, ◌==◌, Bool, true, false, cond, Option, Some, None, List, [], ◌∷◌, map, take, drop, refl, ap, sym, ◌∙◌, arith, eq-eqb}
 use Rattle.std.specs.Prelude.{find, fold, not, if◌then◌else◌}
 use Rattle.std.specs.List.{list_any}
@@ -45,7 +45,7 @@ link-tied all k f keeps tied = each-tied (λ l. cond (l.number == k) (f l) l) (k
 
 -- ---- the links that live, where one changes
 
--- an ended link stays so, and one that lives too
+-- An ended link stays ended, and a living one alive.
 live-changed : (c k : ℕ) (f : Link → Link) → KeepsLink f → ((l : Link) → (f l).has_ended ≡ l.has_ended) → (ls : List Link)
     → find (is_live_of c) (map (λ l. cond (l.number == k) (f l) l) ls) ≡ option_map (λ l. cond (l.number == k) (f l) l) (find (is_live_of c) ls)
 live-changed c k f keeps lives [] = refl
@@ -76,7 +76,7 @@ no-number k (x ∷ xs) p l none e = at (p x) e (or-false (x.number == k) _ none)
     at true e parts next = let it : x ≡ l = cc in ap (λ (l : Link). l.number == k) (sym it) ∙ parts.0
     at false e parts next = next parts.1 e
 
--- what is found in another way is found by its number
+-- A link that is found in another way is found by its number.
 number-found : (p : Link → Bool) (ls : List Link) (l : Link) → AreNumbered ls → find p ls ≡ Some l → find (λ (k : Link). k.number == l.number) ls ≡ Some l
 number-found p [] l apart e = absurd (cc)
 number-found p (x ∷ xs) l apart e = at (p x) e (number-found p xs l apart.1)
@@ -89,7 +89,7 @@ number-found p (x ∷ xs) l apart e = at (p x) e (number-found p xs l apart.1)
         let turned : (x.number == l.number) ≡ false = grind (arith, other) in
         rw turned (next e)
 
--- a link that lives is of the child that it is found by
+-- A living link is of the child by which it is found.
 pub live-child : (c : ℕ) (ls : List Link) (l : Link) → find (is_live_of c) ls ≡ Some l → (l.child == c) ≡ true
 live-child c [] l e = absurd (cc)
 live-child c (x ∷ xs) l e = at (is_live_of c x) refl e (live-child c xs l)
@@ -180,7 +180,7 @@ grows-all : (l : ℕ) (ms : List Member) (rs : List Request) → list_any (is_me
 grows-all l ms [] none = none
 grows-all l ms (r ∷ rs) none = grows l ms r (grows-all l (ordered ms r) rs none)
 
--- who isn't there at the end never was
+-- A child that isn't there at the end never was.
 pub never-there : (l n : ℕ) (rs : List Request) → has_child l rs ≡ false → has_child l (take n rs) ≡ false
 never-there l n rs none =
     let whole : fold ordered (order (take n rs)) (drop n rs) ≡ order rs = sym (fold-append ordered (Itself ∷ []) (take n rs) (drop n rs)) ∙ ap order (take-append-drop n rs) in
@@ -212,7 +212,7 @@ pub none-found : (p : Link → Bool) (ls : List Link) → list_any p ls ≡ fals
 none-found p [] none = refl
 none-found p (x ∷ xs) none = let parts = or-false (p x) (list_any p xs) none in rw parts.0 (none-found p xs parts.1)
 
--- nothing changes where no link has the number
+-- Nothing changes if no link has the number.
 pub none-changed : (k : ℕ) (f : Link → Link) (ls : List Link) → list_any (λ l. l.number == k) ls ≡ false → map (λ l. cond (l.number == k) (f l) l) ls ≡ ls
 none-changed k f [] none = refl
 none-changed k f (x ∷ xs) none =

@@ -12,7 +12,7 @@ use Rattle.wl_surface.specs.TreeLaws.{HaveSameDepth, HaveSameDescent, HaveSameMo
 abbrev pub kept_of : Link → Kept
 kept_of l = record { parent = l.parent; is_synchronised = l.synchronised }
 
--- what is said of the parent is said of it by what is kept
+-- What holds of the parent holds of it by what is kept.
 by-parent : {X : Type 0} (none : X) (f g : ℕ → X) → ((parent : ℕ) → f parent ≡ g parent) → (o : Option Link)
     → of_parent none f o ≡ option_map_or g (option_map (λ (l : Kept). l.parent) (option_map kept_of o)) none
 by-parent none f g same None = refl

@@ -1,4 +1,4 @@
--- What is kept of how surfaces hang together, once a child is placed.
+-- What is kept of how surfaces hang together, after a child is placed.
 use Rattle.std.proofs.Common.{◌≡◌, ℕ, ◌≤◌, ◌||◌, ◌==◌, Bool, true, false, cond, Option, Some, None, List, ◌∷◌, ◌++◌, take, refl, ap, sym, subst, ◌∙◌, arith, eq-eqb, []}
 use Rattle.std.specs.Prelude.{ℤ, find, if◌then◌else◌}
 use Rattle.std.specs.List.{list_any}
@@ -42,7 +42,7 @@ no-live child (x ∷ xs) l none e = at (is_live_of child x) refl none e (no-live
     at true f none e next = absurd (cc)
     at false f none e next = next none e
 
--- a link that lives is the one of its child
+-- A living link is the one of its child.
 pub live-found : (k : ℕ) (ls : List Link) (l : Link) → AreOnceLinked ls → find (λ (l : Link). l.number == k) ls ≡ Some l → l.has_ended ≡ false → find (is_live_of l.child) ls ≡ Some l
 live-found k [] l once e lives = absurd (cc)
 live-found k (x ∷ xs) l once e lives = at (x.number == k) refl e (live-found k xs l once.1)
@@ -79,7 +79,7 @@ kid-found (Some l) child e = at l.has_ended refl e
     at true f e = absurd (cc)
     at false f e = (l, refl, f, cc)
 
--- no two links that live have the same child
+-- No two living links have the same child.
 pub apart-kids : (all : Surfaces) → AreTied all → AreApart (kids_of all)
 apart-kids all tied k l child e f =
     let a = kid-found (link_at k all) child e in
@@ -93,7 +93,7 @@ apart-kids all tied k l child e f =
 pub kid-is : (all : Surfaces) (number : ℕ) (link : Link) → link_at number all ≡ Some link → link.has_ended ≡ false → kids_of all number ≡ Some link.child
 kid-is all number link there lives = ap kid_of there ∙ ap (λ b. cond b None (Some link.child)) lives
 
--- the stacks of the parent change, where the link is kept
+-- The stacks of the parent change, if the link is kept.
 pub parent-pointwise : (tied : Tied) (all : Surfaces) (number : ℕ) (link : Link) (change : Stacks → Stacks) (new : ℕ → Stacks) → Hang tied all → link_at number all ≡ Some link
     → link.has_ended ≡ false → new ≡ at_parent (λ parent. change) (links_in tied link.child) (stacks_in tied) → (n : ℕ)
     → new n ≡ cond (n == link.parent) (change (stacks_in tied n)) (stacks_in tied n)
@@ -136,7 +136,7 @@ moves-child old new all number link x y there lives links stacks hang =
     alone-moved : (child : ℕ) → pending_as (moved child x y) childless ≡ childless
     alone-moved child = refl
 
--- ---- who stands in an order, once a child is placed
+-- ---- who stands in an order after a child is placed
 
 or-swapped : (a b c : Bool) → (a || (b || c)) ≡ (b || (a || c))
 or-swapped true true c = refl
@@ -179,7 +179,7 @@ any-without q c (m ∷ ms) = here (is_member c m) refl (any-without q c ms)
     here true e next = rw e (next ∙ (sym (or-again (q c) (list_any q ms)) ∙ ap (λ n. q c || (q n || list_any q ms)) (is-itself c m e)))
     here false e next = rw e (or-swapped (q c) (q m) (list_any q (without c ms)) ∙ (ap (λ b. q m || b) next ∙ or-swapped (q m) (q c) (list_any q ms)))
 
--- who is there already adds nobody
+-- A member that is there already adds nobody.
 any-there : (l : ℕ) (c : Member) (ms : List Member) → list_any (is_member c) ms ≡ true → (is_member (Child l) c || list_any (is_member (Child l)) ms) ≡ list_any (is_member (Child l)) ms
 any-there l c ms there = at (is_member (Child l) c) refl
   where

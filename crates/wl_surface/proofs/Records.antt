@@ -1,4 +1,4 @@
--- What a request makes of a list, and of the records that stand for it.
+-- What a request makes of a list, and of the records that stand for the list.
 use Rattle.std.proofs.Common.{◌≡◌, ℕ, suc, ◌≤◌, ◌<◌, drop, List, [], ◌∷◌, ◌++◌, Bool, true, false, Option, Some, None, length, take, refl, ap, sym, subst, ◌∙◌, arith}
 use Rattle.std.proofs.lemmas.List.{append-nil, drop_all, length-append, length-take, take-append-le, take_all}
 use Rattle.std.specs.Prelude.{ℤ, ◌+ℤ◌, if◌then◌else◌, flat_map, fold}
@@ -40,7 +40,7 @@ values-asked rs r = fold-last asked first_values rs r
 pub offset-asked : (rs : List Request) (r : Request) → offset (rs ++ r ∷ []) ≡ moving (offset rs) r
 offset-asked rs r = fold-last moving _ rs r
 
--- what is held stays so without a commit, and what is applied always
+-- What is held stays without a commit. What is applied always stays.
 pub held-kept : (rs : List Request) (r : Request) → is_commit r ≡ false → committed rs ≤ length rs → held_list (rs ++ r ∷ []) ≡ held_list rs
 held-kept rs r e le = ap (λ n. take n (rs ++ r ∷ [])) (committed-kept rs r 0 0 e) ∙ take-append-le (committed rs) rs (r ∷ []) le
 
@@ -50,12 +50,12 @@ held-committed rs = let e = committed-last rs in take_all (committed (rs ++ Comm
 pub applied-kept : (h : History) (r : Request) → h.cut ≤ committed h.requests → committed h.requests ≤ length h.requests → take h.cut (h.requests ++ r ∷ []) ≡ take h.cut h.requests
 applied-kept h r le within = take-append-le h.cut h.requests (r ∷ []) (omega (arith, le, within))
 
--- Damage of both kinds, as it is kept, is that which is pending with one request more.
+-- The kept damage of both kinds is the pending damage with one more request.
 pub record Adds (damage buffer_damage : List Rect) (h : History) (r : Request) : Type 0 where
   pub rects : damage ≡ take 1025 (damaged_rects (drop (committed h.requests) h.requests) ++ damaged_rects (r ∷ []))
   pub buffer_rects : buffer_damage ≡ take 1025 (damaged_buffer_rects (drop (committed h.requests) h.requests) ++ damaged_buffer_rects (r ∷ []))
 
--- a request that is no commit: what is pending changes, and nothing else
+-- A request that is no commit changes what is pending, and nothing else.
 pub Stands-asked : (k : Kept) (h : History) (r : Request) (buffer : Option Attached) (transform : Transform) (scale : Scale) (opaque : Option Area) (input : Option (Option Area))
     (by : Option Offset) (damage buffer_damage : List Rect) → is_commit r ≡ false → Stands k h
     → Shows buffer transform scale (latest opaque (latest k.held_opaque k.current_opaque)) (latest input (latest k.held_input k.current_input)) (asked (pending h) r)
@@ -93,7 +93,7 @@ Stands-asked k h r buffer transform scale opaque input by damage buffer_damage p
       commits_within = let e = s.commits_within in omega (arith, at, longer, e);
     }
 
--- the same of a surface, whose role isn't touched
+-- the same, of a surface, whose role stays
 pub For-asked : (k : Kept) (s : Surface) (r : Request) (buffer : Option Attached) (transform : Transform) (scale : Scale) (opaque : Option Area) (input : Option (Option Area))
     (by : Option Offset) (damage buffer_damage : List Rect) → is_commit r ≡ false → StandsFor k s
     → Shows buffer transform scale (latest opaque (latest k.held_opaque k.current_opaque)) (latest input (latest k.held_input k.current_input)) (asked (pending s.history) r)
@@ -112,13 +112,13 @@ pub For-asked : (k : Kept) (s : Surface) (r : Request) (buffer : Option Attached
 For-asked k s r buffer transform scale opaque input by damage buffer_damage plain t shows moves adds =
     record { history = Stands-asked k s.history r buffer transform scale opaque input by damage buffer_damage plain t.history shows moves adds; role = t.role }
 
--- where nothing is damaged of one kind
+-- a request that damages nothing of one kind
 still-pending : (f : Request → List Rect) (kept : List Rect) (h : History) (r : Request) → kept ≡ take 1025 (flat_map f (drop (committed h.requests) h.requests)) → flat_map f (r ∷ []) ≡ []
     → kept ≡ take 1025 (flat_map f (drop (committed h.requests) h.requests) ++ flat_map f (r ∷ []))
 still-pending f kept h r is none =
     is ∙ ap (λ rs. take 1025 rs) (sym (append-nil _)) ∙ ap (λ rs. take 1025 (flat_map f (drop (committed h.requests) h.requests) ++ rs)) (sym none)
 
--- or of both
+-- a request that damages nothing
 pub undamaged : (k : Kept) (h : History) (r : Request) → damaged_rects (r ∷ []) ≡ [] → damaged_buffer_rects (r ∷ []) ≡ [] → Stands k h
     → Adds k.pending_damage k.pending_buffer_damage h r
 undamaged k h r none none_of_buffer s = record {
@@ -126,7 +126,7 @@ undamaged k h r none none_of_buffer s = record {
   buffer_rects = still-pending damaged_buffer_rect k.pending_buffer_damage h r s.pending_buffer_damaged none_of_buffer;
 }
 
--- where nothing moves
+-- a request that moves nothing
 pub still : (k : Kept) (h : History) → Stands k h → offset h.requests ≡ record { x = (offset h.requests).x; y = (offset h.requests).y; next = option_map pair_of k.pending_offset }
 still k h s = ap (λ (n : Option (ℤ × ℤ)). record { x = (offset h.requests).x; y = (offset h.requests).y; next = n }) (sym s.pending_move)
 
@@ -139,7 +139,7 @@ For-unseen k s r plain same stays none none_of_buffer t =
     (latest k.pending_input (latest k.held_input k.current_input)) v) (sym same) t.history.pending)
     (stays ∙ still k s.history t.history) (undamaged k s.history r none none_of_buffer t.history)
 
--- a rectangle more is kept where fewer than 1,025 are, or else none
+-- One more rectangle is kept if fewer than 1,025 are, or else none.
 kept-more : (kept fresh : List Rect) (rect : Rect) → kept ≡ take 1025 fresh → length kept < 1025 → kept ++ rect ∷ [] ≡ take 1025 (fresh ++ rect ∷ [])
 kept-more kept fresh rect is less =
     let room : length (take 1025 fresh) < 1025 = subst (λ (rs : List Rect). length rs < 1025) is less in
@@ -157,7 +157,7 @@ module _ (k : Kept) (surface : Surface) (rect : Rect) (u : StandsFor k surface) 
   abbrev fresh_of_buffer : List Rect
   fresh_of_buffer = damaged_buffer_rects (drop (committed surface.history.requests) surface.history.requests)
 
-  -- of the surface
+  -- damage of the surface
   pub For-damaged : length k.pending_damage < 1025 → StandsFor (record k { pending_damage = k.pending_damage ++ rect ∷ [] }) (asking (Damage rect) surface)
   For-damaged less = For-asked k surface (Damage rect) _ _ _ _ _ _ _ _ refl u u.history.pending (still k surface.history u.history) (record {
     rects = kept-more k.pending_damage fresh rect u.history.pending_damaged less;
@@ -170,7 +170,7 @@ module _ (k : Kept) (surface : Surface) (rect : Rect) (u : StandsFor k surface) 
     buffer_rects = still-pending damaged_buffer_rect k.pending_buffer_damage surface.history (Damage rect) u.history.pending_buffer_damaged refl;
   })
 
-  -- of its buffer
+  -- damage of its buffer
   pub For-damaged-buffer : length k.pending_buffer_damage < 1025 → StandsFor (record k { pending_buffer_damage = k.pending_buffer_damage ++ rect ∷ [] }) (asking (DamageBuffer rect) surface)
   For-damaged-buffer less = For-asked k surface (DamageBuffer rect) _ _ _ _ _ _ _ _ refl u u.history.pending (still k surface.history u.history) (record {
     rects = still-pending damaged_rect k.pending_damage surface.history (DamageBuffer rect) u.history.pending_damaged refl;
@@ -194,7 +194,7 @@ moved-next o new None m e x y f =
 moved-next o new (Some by) m e x y f =
     let n = sym e in rw n (f.0 ∙ ap (λ z. within_bounds (z +ℤ by.x)) x, f.1 ∙ ap (λ z. within_bounds (z +ℤ by.y)) y, refl)
 
--- a commit: what was pending is held
+-- A commit holds what was pending.
 pub Stands-committed : (k : Kept) (h : History) (new : Offset) → Stands k h → IsFarther k.held_offset k.pending_offset new
     → Stands (record k {
       held_buffer = k.pending_buffer;
@@ -265,7 +265,7 @@ pub For-committed : (k : Kept) (s : Surface) (new : Offset) → StandsFor k s �
     (asking Commit s)
 For-committed k s new t moved = record { history = Stands-committed k s.history new t.history moved; role = t.role }
 
--- what was held is applied
+-- Applying applies what was held.
 Stands-applied : (k : Kept) (h : History) → Stands k h
     → Stands (record k {
       current_buffer = k.held_buffer;
@@ -312,7 +312,7 @@ pub For-applied : (k : Kept) (s : Surface) → StandsFor k s
     }) (applying s)
 For-applied k s t = record { history = Stands-applied k s.history t.history; role = t.role }
 
--- what is asked of a surface doesn't change with its role
+-- A role changes nothing of what is asked of a surface.
 pub For-role : (k : Kept) (s : Surface) (role : Role) → StandsFor k s → StandsFor (record k { role = Some role }) (with_role role s)
 For-role k s role t =
     let h = t.history in

@@ -20,16 +20,16 @@ same-there : {X Y : Type 0} (f : X → Y) (o : Option X) → is_some (option_map
 same-there f None = refl
 same-there f (Some x) = refl
 
--- the link that is kept is there where the one that was asked for is
+-- A link is kept exactly if it was asked for.
 pub link-there : (slots : Slots) (tied : Tied) (all : Surfaces) (child : ℕ) → Stand slots tied all → is_some (links_in tied child) ≡ is_some (link_of child all)
 link-there slots tied all child stand = ap is_some (stand.hang.0.links child) ∙ same-there _ (link_of child all)
 
--- a surface has another role by what is kept
+-- A surface has another role by what is kept.
 pub taken-role : (slots : Slots) (tied : Tied) (all : Surfaces) (child : ℕ) (role : Option Role) → Stand slots tied all → role ≡ role_at (surface_at child all) → is_other_role role ≡ true
     → true ≡ is_taken all child
 taken-role slots tied all child role stand e other = sym (ap (λ b. b || is_some (link_of child all)) (ap is_other_role (sym e) ∙ other))
 
--- or a link by what is kept
+-- It has a link by what is kept.
 pub taken-link : (slots : Slots) (tied : Tied) (all : Surfaces) (child : ℕ) (role : Option Role) (has : Bool) → Stand slots tied all → role ≡ role_at (surface_at child all)
     → is_other_role role ≡ false → has ≡ is_some (links_in tied child) → has ≡ is_taken all child
 taken-link slots tied all child role has stand e other is =
@@ -116,7 +116,7 @@ pub given : {T : Type 0} (r : Result T SurfaceError) → (IsErr r → ⊥) → I
 given (Ok x) never = tt
 given (Err e) never = absurd (never refl)
 
--- where memory alone is wanted, nothing is said of other refusals
+-- Where memory alone is missing, nothing is said of other refusals.
 pub memory-leaves : {T : Type 0} (r : Result T SurfaceError) (P : Type 0) → IfErr r (λ e. e ≡ error.Memory) → IfErr r (λ e. e ≢ error.Memory → P)
 memory-leaves (Ok x) P h = tt
 memory-leaves (Err e) P h = λ other. absurd (other h)

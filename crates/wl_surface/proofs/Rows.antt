@@ -16,7 +16,7 @@ forty number = record { number = number; object = number; store = 1; offset = 64
 abbrev rect : ℤ → ℤ → ℤ → ℤ → Rect
 rect x y w h = record { x = x; y = y; w = w; h = h }
 
--- a buffer is attached, damaged and committed, and the next one is attached
+-- A buffer is attached, damaged and committed, and the next one is attached.
 abbrev shown : List Request
 shown = Attach (Some (forty 1)) (pos 0) (pos 0) ∷ Damage (rect (pos 0) (pos 0) (pos 40) (pos 40)) ∷ Commit ∷ Attach (Some (forty 2)) (pos 3) (pos 0) ∷ []
 
@@ -32,7 +32,7 @@ row_applied = refl
 pub row_pending : (pending first).buffer ≡ Some (forty 2)
 row_pending = refl
 
--- the second is busy once it is committed, and the first no longer
+-- The second is busy after it is committed, and the first isn't any more.
 abbrev second : History
 second = apply (record { requests = shown ++ Commit ∷ []; cut = 3 })
 
@@ -55,7 +55,8 @@ row_offset-held = refl
 pub row_offset-back : (offset (Attach None (pos 2147483647) (pos 0) ∷ Commit ∷ Attach None (negsuc 16777215) (pos 0) ∷ Commit ∷ [])).x ≡ pos 0
 row_offset-back = refl
 
--- two commits of a synchronised subsurface: both are held until the surface is applied, with the damage of both
+-- Two commits of a synchronised subsurface are held until the surface is applied, with the damage
+-- of both.
 abbrev pub small : ℕ → Buffer
 small number = record { number = number; object = number; store = 2; offset = 0; width = 4; height = 4; stride = 16; format = Xrgb8888 }
 
@@ -101,7 +102,7 @@ row_turned = refl
 pub row_turned-height : height_of wide 1 1 ≡ 80
 row_turned-height = refl
 
--- a new child is topmost; placed below its parent it stands under it
+-- A new child is topmost. Placed below its parent, it stands under it.
 pub row_topmost : order (AddChild 1 ∷ AddChild 2 ∷ []) ≡ Itself ∷ Child 1 ∷ Child 2 ∷ []
 row_topmost = refl
 
@@ -111,14 +112,15 @@ row_below = refl
 pub row_above : order (AddChild 1 ∷ AddChild 2 ∷ PlaceAbove 1 (Child 2) ∷ []) ≡ Itself ∷ Child 2 ∷ Child 1 ∷ []
 row_above = refl
 
--- beside a sibling that the order hasn't, it stays where it was
+-- Placed beside a sibling that isn't there, it stays where it was.
 pub row_stays : order (AddChild 1 ∷ AddChild 2 ∷ PlaceAbove 1 (Child 3) ∷ []) ≡ Itself ∷ Child 1 ∷ Child 2 ∷ []
 row_stays = refl
 
 pub row_position : position 1 (AddChild 1 ∷ SetPosition 1 (pos 4) (pos 5) ∷ SetPosition 2 (pos 6) (pos 7) ∷ []) ≡ (pos 4, pos 5)
 row_position = refl
 
--- a window geometry counts once it is committed, and one that was asked before the role object was made never
+-- A window geometry counts after its commit. One that was asked before the role object was made
+-- never counts.
 pub row_geometry : geometry 0 (record { requests = SetWindowGeometry (rect (pos 4) (pos 4) (pos 32) (pos 32)) ∷ Commit ∷ []; cut = 2 }) ≡ Some (rect (pos 4) (pos 4) (pos 32) (pos 32))
 row_geometry = refl
 
@@ -128,7 +130,7 @@ row_geometry-pending = refl
 pub row_geometry-used : geometry 2 (record { requests = SetWindowGeometry (rect (pos 4) (pos 4) (pos 32) (pos 32)) ∷ Commit ∷ Commit ∷ []; cut = 3 }) ≡ None
 row_geometry-used = refl
 
--- a surface of scale 2 is half as wide and half as high as its buffer; a scale of 3 doesn't fit
+-- A surface of scale 2 is half as wide and half as high as its buffer. A scale of 3 doesn't fit.
 abbrev scaled_values : ℕ → Values
 scaled_values transform = record first_values { buffer = Some (forty 1); transform = transform; scale = 2 }
 
@@ -154,7 +156,7 @@ row_block-left = refl
 pub row_block-below : is_damaged_by (scaled_values 0) (of_buffer (pos 2) (pos 2) (pos 1) (pos 1)) 1 2 ≡ false
 row_block-below = refl
 
--- two by two of them are in four
+-- Two by two points of the buffer are in four blocks.
 pub row_blocks-first : is_damaged_by (scaled_values 0) (of_buffer (pos 1) (pos 1) (pos 2) (pos 2)) 0 0 ≡ true
 row_blocks-first = refl
 
@@ -164,14 +166,14 @@ row_blocks-last = refl
 pub row_blocks-beside : is_damaged_by (scaled_values 0) (of_buffer (pos 1) (pos 1) (pos 2) (pos 2)) 2 1 ≡ false
 row_blocks-beside = refl
 
--- where the surface is turned, the first point of the buffer is in its upper right corner
+-- The first point of the buffer is in the upper right corner of a surface that is turned.
 pub row_block-turned : is_damaged_by (scaled_values 1) (of_buffer (pos 0) (pos 0) (pos 1) (pos 1)) 19 0 ≡ true
 row_block-turned = refl
 
 pub row_block-turned-left : is_damaged_by (scaled_values 1) (of_buffer (pos 0) (pos 0) (pos 1) (pos 1)) 0 0 ≡ false
 row_block-turned-left = refl
 
--- an empty rectangle is in no block, and the scale is that of the last request
+-- An empty rectangle is in no block. The scale is that of the last request.
 pub row_block-empty : is_damaged_by (scaled_values 0) (of_buffer (pos 1) (pos 1) (pos 0) (pos 4)) 0 0 ≡ false
 row_block-empty = refl
 

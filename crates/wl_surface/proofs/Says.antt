@@ -1,4 +1,4 @@
--- What is told of the damage that is held, by rectangles of the surface.
+-- The held damage, told by rectangles of the surface.
 use Rattle.std.proofs.Common.{◌≡◌, ℕ, ◌+◌, ◌<◌, List, Option, Some, None, length, refl, ap, subst, ◌∙◌}
 use Rattle.std.specs.Prelude.{pos, ◌||◌}
 use Rattle.std.specs.List.{list_any}
@@ -12,7 +12,7 @@ use Rattle.wl_surface.specs.State.{History, SaysDamage, Values, between, committ
 use Rattle.wl_surface.specs.Kept.{Kept, Stands, buffer_of, turned_height, turned_width}
 use Rattle.wl_surface.proofs.Damages.{at-point, told-both}
 
--- by a number of the transform or by the transform itself
+-- by the number of the transform, or by the transform itself
 width-turned : (b : Option Buffer) (number scale : ℕ) → turned_width b (transform_of number) scale ≡ width_of b number scale
 width-turned None number scale = refl
 width-turned (Some b) number scale = refl
@@ -21,7 +21,8 @@ height-turned : (b : Option Buffer) (number scale : ℕ) → turned_height b (tr
 height-turned None number scale = refl
 height-turned (Some b) number scale = refl
 
--- the points of a surface of this size that these tell are those of its own, and those that show a point of its buffer's
+-- These rectangles tell the points of the surface's own, and those that show a point of its
+-- buffer's.
 abbrev pub TellsPoints : List Rect → List Rect → List Rect → Transform → ℕ → ℕ → ℕ → Type 0
 TellsPoints told own of_buffer transform scale w h =
     (x y : ℕ) → x < w → y < h
@@ -43,7 +44,7 @@ module _ (k : Kept) (h : History) (s : Stands k h) (told : List Rect) (w high : 
       ∙ ap (λ (t : Transform). turned_height shown.buffer t k.held_scale.number) s.held.transform_is
       ∙ ap (λ (n : ℕ). turned_height shown.buffer (transform_of shown.transform) n) s.held.scale_is ∙ height-turned shown.buffer shown.transform shown.scale
 
-  -- the damage that is held, told by rectangles, is that which was asked
+  -- The held damage, told by rectangles, is the one that was asked.
   pub says-held : w ≡ turned_width (option_map buffer_of k.held_buffer) k.held_transform k.held_scale.number
       → high ≡ turned_height (option_map buffer_of k.held_buffer) k.held_transform k.held_scale.number
       → length told ≡ length k.held_damage + length k.held_buffer_damage

@@ -1,4 +1,4 @@
--- The buffers that those surfaces showed that a call applies, holds or ends.
+-- The buffers that a call's surfaces showed: those that it applies, holds or ends.
 use Rattle.std.proofs.Common.{◌≡◌, ℕ, ◌==◌, ◌||◌, Bool, true, false, List, [], ◌∷◌, map, refl, ap, sym, subst, ◌∙◌, arith}
 use Rattle.std.specs.List.{Contains}
 use Rattle.std.proofs.lemmas.Bool.{eqb-true}
@@ -22,14 +22,14 @@ are-shown ns is_such all shown such is = record {
       (one.0, sym (such one.0) ∙ one.1, one.2);
 }
 
--- the same of other words for those surfaces
+-- the same, of those surfaces in other words
 pub shown-such : (first other : ℕ → Bool) (all : Surfaces) (buffers : List Buffer) → ((n : ℕ) → first n ≡ other n) → AreShown first all buffers → AreShown other all buffers
 shown-such first other all buffers same are = record {
   each = λ number buffer e shows. are.each number buffer (same number ∙ e) shows;
   those = λ buffer has. let one = are.those buffer has in (one.0, sym (same one.0) ∙ one.1, one.2);
 }
 
--- where no surface is such, and no buffer is there
+-- no surface is of the kind, and there is no buffer
 pub none-shown : (is_such : ℕ → Bool) (all : Surfaces) (shown : List Attached) → ((n : ℕ) → is_such n ≡ false) → shown ≡ [] → AreShown is_such all (map buffer_of shown)
 none-shown is_such all shown none is = are-shown [] is_such all shown (λ n. sym (none n)) (ap (λ (xs : List Attached). map buffer_of xs) is)
 

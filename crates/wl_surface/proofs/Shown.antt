@@ -1,4 +1,4 @@
--- Whether a surface shows a buffer, and what it changes of it that it goes.
+-- Whether a surface shows a buffer, and what its end changes of that.
 use Rattle.std.proofs.Common.{◌≡◌, ℕ, Bool, true, false, Option, List, ◌∷◌, ◌++◌, ap, sym, subst, ◌∙◌, []}
 use Rattle.wl_surface.specs.Surface.{Surface}
 use Rattle.wl_surface.specs.declared.applied.Change.{Change}

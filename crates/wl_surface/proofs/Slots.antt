@@ -21,7 +21,7 @@ Stand slots all = (number : ℕ) → StandsAt (place_at slots number) (all numbe
 abbrev places_counted : Places → ℕ
 places_counted slots = count_by is_some slots
 
--- a number under which something is kept is that of a place
+-- A number under which something is kept is that of a place.
 within : (slots : Places) (number : ℕ) (k : Kept) → place_at slots number ≡ Some k → number < length slots
 within [] number k e = absurd (cc)
 within (slot ∷ slots) zero k e = omega arith
@@ -39,7 +39,7 @@ counted-after slots number k new e =
     let was : one_if_kept (place_at slots number) ≡ 1 = ap one_if_kept e in
     omega (arith, sums, was)
 
--- what stands for a surface under its number is one
+-- What stands for a surface under its number is one.
 standing : (k new : Kept) (change : Surface → Surface) (at : Option Surface) → StandsAt (Some k) at → ((s : Surface) → StandsFor k s → StandsFor new (change s))
     → StandsAt (Some new) (option_map change at)
 standing k new change None s to = s
@@ -68,7 +68,7 @@ nobody-at : (change : Surface → Surface) (at : Option Surface) → StandsAt No
 nobody-at change None s = refl
 nobody-at change (Some at) s = absurd (s)
 
--- where none is, none changes
+-- Without a surface, none changes.
 pub Changes-none : (slots : Places) (frames after : List Waiting) (number : ℕ) (change : Surface → Surface) → place_at slots number ≡ None
     → Changes (record { places = slots; frames = frames }) (record { places = slots; frames = after }) number change
 Changes-none slots frames after number change e = record {
@@ -83,7 +83,7 @@ Changes-none slots frames after number change e = record {
       (sym (nobody-at change (all other) (subst (λ (slot : Option Kept). StandsAt slot (all other)) (ap (place_at slots) at ∙ e) (stand other)))) (stand other)
   none-changes slots number other change all false differs e stand = stand other
 
--- a surface more, under a number that none had
+-- one more surface, under a number that none had
 pub with-new : (old new : Places) (number : ℕ) (k : Kept) (s : Surface) → place_at old number ≡ None → place_at new number ≡ Some k
     → ((other : ℕ) → other ≢ number → place_at new other ≡ place_at old other) → StandsFor k s
     → (all : Numbered) → Stand old all → (all number ≡ None) × Stand new (with_at number (Some s) all)
@@ -139,7 +139,7 @@ none-from p key (None ∷ slots) e (suc number) k at = none-from p (key + 1) slo
 none-from p key (Some x ∷ slots) e zero k at = ap p (sym (ap (kept_or x) at)) ∙ first-lacks (p x) (list_any (λ y. p y.1) (entries_from (key + 1) slots)) e
 none-from p key (Some x ∷ slots) e (suc number) k at = none-from p (key + 1) slots (rest-lacks (p x) (list_any (λ y. p y.1) (entries_from (key + 1) slots)) e) number k at
 
--- whether one of what is kept has it is whether some surface does
+-- Some surface has the property exactly if one has it by what is kept.
 pub IsAny-kept : (p : Kept → Bool) (q : Option Surface → Bool) → q None ≡ false → ((k : Kept) (s : Surface) → StandsFor k s → p k ≡ q (Some s)) → (slots : Places) (all : Numbered) → Stand slots all
     → (b : Bool) → list_any (λ e. p e.1) (entries_from 0 slots) ≡ b → IsAny q all b
 IsAny-kept p q idle same slots all stand true e =

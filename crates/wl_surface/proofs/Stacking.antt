@@ -1,4 +1,4 @@
--- What requests make of a stack, and what is done to the one that is kept.
+-- What requests make of a stack, and what is done to the kept one.
 use Rattle.std.proofs.Common.{◌≡◌, ℕ, ◌||◌, ◌==◌, Bool, true, false, cond, Option, Some, None, List, [], ◌∷◌, ◌++◌, map, refl, ap, sym, subst, ◌∙◌, arith, eq-eqb}
 use Rattle.std.specs.Prelude.{ℤ, pos, find, filter_map, if◌then◌else◌}
 use Rattle.std.specs.List.{list_any}
@@ -39,7 +39,7 @@ or-right : (a b : Bool) → (a || b) ≡ false → b ≡ false
 or-right false b e = e
 or-right true b e = absurd (cc)
 
--- all but a member that isn't there
+-- all members but one that isn't there
 other-places : (f g : Member → Option Placed) (l : ℕ) → ((m : Member) → is_member (Child l) m ≡ false → f m ≡ g m) → (ms : List Member)
     → list_any (is_member (Child l)) ms ≡ false → filter_map f ms ≡ filter_map g ms
 other-places f g l same [] none = refl
@@ -51,7 +51,7 @@ same-place kids rs new same Itself = refl
 same-place kids rs new same (Child l) =
     ap (λ (at : ℤ × ℤ). option_map (λ child. record { member = kept.Child child; x = at.0; y = at.1 }) (kids l)) (same l)
 
--- ---- requests about nothing of it
+-- ---- requests that change no stack
 
 pub order-still : (ms : List Member) (r : Request) → is_about_children r ≡ false → ordered ms r ≡ ms
 order-still ms (AddChild l) e = absurd (cc)
@@ -105,7 +105,7 @@ follow-add kids rs l child none at =
 
 -- ---- who is who
 
--- a number is another's, or it isn't: so do a member and what is kept of it
+-- Two numbers are the same exactly if their children are.
 same-kid : (kids : Kids) → AreApart kids → (k l : ℕ) (c child : ℕ) → kids k ≡ Some c → kids l ≡ Some child → (child == c) ≡ (l == k)
 same-kid kids apart k l c child e f = at (child == c) (l == k) refl refl
   where
@@ -122,7 +122,7 @@ same-kid kids apart k l c child e f = at (child == c) (l == k) refl refl
         let same : child ≡ c = cc in
         let other = sym g ∙ (ap (λ n. n == c) same ∙ eq-eqb c c refl) in cc)
 
--- what is kept of a member is that of another exactly where they are one
+-- What is kept of two members is the same exactly if they are one.
 same-member : (kids : Kids) → AreApart kids → (rs : List Request) (at : Member) (k : Kept) → IsKept kids at k → (m : Member) (p : Placed) → place_of kids rs m ≡ Some p
     → is_of k p ≡ is_member at m
 same-member kids apart rs Itself kept.Itself is Itself p e =
@@ -145,9 +145,9 @@ same-member kids apart rs (Child l) (kept.Child child) is (Child k) p e = at (ki
         let it : record { member = kept.Child c; x = (position k rs).0; y = (position k rs).1 } ≡ p = cc in
         ap (is_of (kept.Child child)) (sym it) ∙ same-kid kids apart k l c child f is
 
--- ---- lists of places, of members that are kept so
+-- ---- lists of places
 
--- of each member that has a place, whether it is this one
+-- It tells of each member with a place whether it is this one.
 abbrev Tells : (Member → Option Placed) → Member → Kept → Type 0
 Tells f at k = (m : Member) (p : Placed) → f m ≡ Some p → is_of k p ≡ is_member at m
 
@@ -162,7 +162,7 @@ filtered f at k tells (m ∷ ms) = here (f m) refl (is_member at m) refl (filter
     here (Some p) e true g next = let same = tells m p e ∙ g in rw (e, g) (rw same next)
     here (Some p) e false g next = let same = tells m p e ∙ g in rw (e, g) (rw (same, e) (ap (λ ps. p ∷ ps) next))
 
--- a member that is this one has this place
+-- A member that is this one has this place.
 abbrev Finds : (Member → Option Placed) → Member → Placed → Type 0
 Finds f at p = (m : Member) → is_member at m ≡ true → f m ≡ Some p
 
@@ -216,7 +216,7 @@ find-filtered f at k q tells there (m ∷ ms) any = here (f m) refl (is_member a
     here (Some p) e true g any next = let same = tells m p e ∙ g in rw e (rw same (sym e ∙ there m g))
     here (Some p) e false g any next = let same = tells m p e ∙ g in rw e (rw same (next any))
 
--- a member that is kept has a place, whoever is that member
+-- A kept member has a place, whoever is that member.
 finds-kept : (kids : Kids) (rs : List Request) (at : Member) (k : Kept) → IsKept kids at k → (p : Placed) × (place_of kids rs at ≡ Some p) × Finds (place_of kids rs) at p
 finds-kept kids rs Itself kept.Itself is = (record { member = kept.Itself; x = pos 0; y = pos 0 }, refl, itself)
   where
@@ -236,7 +236,8 @@ finds-kept kids rs (Child l) (kept.Child child) is =
 
 -- ---- placing
 
--- where a child comes next to a sibling, what is kept of it comes next to what is kept of the sibling
+-- If a child is put next to a sibling, what is kept of it is put next to what is kept of the
+-- sibling.
 follow-placed : (kids : Kids) (rs : List Request) (l child : ℕ) (at : Member) (k : Kept) (beside : Member → Member → List Member → List Member)
     (beside_kept : Placed → Kept → List Placed → List Placed) → AreApart kids → kids l ≡ Some child → has_child l rs ≡ true → IsKept kids at k
     → ((q : Placed) → Tells (place_of kids rs) at k → Finds (place_of kids rs) at q → (c : Member) (p : Placed) → place_of kids rs c ≡ Some p → (ms : List Member)

@@ -1,4 +1,4 @@
--- What is kept stands for what was asked, after each request of a link.
+-- After each request of a link, what is kept stands for what was asked.
 use Rattle.std.proofs.Common.{◌≡◌, ℕ, ◌==◌, ◌||◌, Bool, true, false, cond, Option, Some, None, List, [], ◌∷◌, ◌++◌, map, refl, ap, sym, subst, ◌∙◌}
 use Rattle.std.specs.Prelude.{find, is_some}
 use Rattle.std.specs.Option.{option_map}
@@ -70,7 +70,7 @@ pub stand-changed : (slots : Slots) (all : Surfaces) (k : ℕ) (f : Surface → 
     → StandForAll slots (numbered (with_change k f all))
 stand-changed slots all k f same stand n = subst (λ (at : Option Surface). StandsAt (kept_at slots n) at) (sym (numbered-changed all k f same n)) (stand n)
 
--- ---- a request about children: nothing of it is kept of the surface
+-- ---- a request about children, of which the surface keeps nothing
 
 unseen-at : (r : Request) → is_about_children r ≡ true → (slot : Option Kept) (at : Option Surface) → StandsAt slot at → StandsAt slot (option_map (asking r) at)
 unseen-at r about None None t = tt
@@ -108,7 +108,7 @@ asked-stands slots old new all parent r about places stand hang = record {
   there = λ n is. there-changed all parent (asking r) (λ s. refl) n ∙ stand.there n (subst (λ (ps : List Place). has_place n ps ≡ true) places is);
 }
 
--- the sibling of a child is one of its parent's
+-- The sibling of a child is a child of its parent.
 pub sibling-placed : (change : ℕ → Member → List Placed → List Placed) (old : Tied) (all : Surfaces) (number : ℕ) (link : Link) (child sibling : ℕ) → IsLink all number child link → Hang old all
     → at_parent (λ parent. pending_as (change child (member_of parent sibling))) (links_in old child) (stacks_in old)
     ≡ at_parent (λ parent. pending_as (change link.child (member_of link.parent sibling))) (links_in old link.child) (stacks_in old)
@@ -141,7 +141,7 @@ nothing-stands slots tied stand none = record {
   there = λ n is. absurd (let e : is_there n untied ≡ true = sym (ap (is_there n) none) ∙ is in cc);
 }
 
--- ---- a link more
+-- ---- one more link
 
 hangs-still : (old new : Tied) (all : Surfaces) → links_in new ≡ links_in old → stacks_in new ≡ stacks_in old → Hang old all → Hang new all
 hangs-still old new all links stacks hang = (
@@ -149,7 +149,7 @@ hangs-still old new all links stacks hang = (
   hang.1,
 )
 
--- one of the two that a link is between is there, and so are those that were
+-- Both surfaces of a link are there, and so are those that were.
 come-there : (child parent n : ℕ) (old : Tied) (all : Surfaces) → is_some (surface_at child all) ≡ true → is_some (surface_at parent all) ≡ true
     → (is_there n old ≡ true → is_some (surface_at n all) ≡ true) → (n == child || (n == parent || is_there n old)) ≡ true → is_some (surface_at n all) ≡ true
 come-there child parent n old all first second before is = at (n == child) (n == parent) refl refl is
@@ -159,7 +159,7 @@ come-there child parent n old all first second before is = at (n == child) (n ==
     at false true e f is = ap (λ k. is_some (surface_at k all)) (eqb-true n parent f) ∙ second
     at false false e f is = before is
 
--- where there is no memory for it
+-- Without memory what is kept stands as before.
 pub unlinked-stands : (slots : Slots) (old new : Tied) (all : Surfaces) (child parent : ℕ) → links_in new ≡ links_in old → stacks_in new ≡ stacks_in old
     → ((n : ℕ) → is_there n new ≡ true → (n == child || (n == parent || is_there n old)) ≡ true) → Stand slots old all → is_some (surface_at child all) ≡ true
     → is_some (surface_at parent all) ≡ true → Stand slots new all
@@ -169,7 +169,7 @@ unlinked-stands slots old new all child parent links stacks come stand first sec
   there = λ n is. come-there child parent n old all first second (stand.there n) (come n is);
 }
 
--- the child has its role, and what is asked of the parent is not seen in what is kept of it
+-- The child has its role. Nothing is kept of what is asked of the parent.
 pub linked-stands : (slots given : Slots) (old new : Tied) (all : Surfaces) (number child parent : ℕ) → Changes slots given child (with_role Subsurface)
     → links_in new ≡ joined child parent (links_in old) → stacks_in new ≡ stacks_changed_at parent (pending_as (added child)) (stacks_in old) → links_in old child ≡ None
     → ((n : ℕ) → is_there n new ≡ true → (n == child || (n == parent || is_there n old)) ≡ true) → Stand slots old all → link_at number all ≡ None

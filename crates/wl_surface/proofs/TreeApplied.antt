@@ -1,4 +1,4 @@
--- Surfaces are applied in turn: what that makes of all, and what is told of it.
+-- Surfaces are applied in turn: what that makes of all, and what is told.
 use Rattle.std.proofs.Common.{◌≡◌, ℕ, zero, suc, ◌+◌, ◌<◌, ◌==◌, ◌||◌, cond, if◌then◌else◌, Bool, true, false, Option, Some, None}
 use Rattle.std.proofs.Common.{List, [], ◌∷◌, ◌++◌, take, length, refl, ap, sym, subst, ◌∙◌, arith, eq-eqb, append_assoc, append-nil}
 use Rattle.std.specs.Prelude.{slice_index_or}
@@ -17,7 +17,7 @@ use Rattle.wl_surface.specs.Waiting.{AreWaiting, Callback}
 use Rattle.wl_surface.specs.declared.frames.Waiting.{Waiting}
 use Rattle.wl_surface.specs.Tree.{AreOnce, AreTold, AreToldAfter, applied_among, is_among, listed, stacks_among}
 
--- two numbers are the same in either order
+-- Two numbers are the same in either order.
 turned : (n m : ℕ) → (n == m) ≡ (m == n)
 turned n m = at (n == m) refl
   where
@@ -32,17 +32,17 @@ turned n m = at (n == m) refl
     at true e = sym (eq-eqb m n (sym (eqb-true n m e)))
     at false e = not-true (m == n) (λ f. differ (sym e ∙ eq-eqb n m (sym (eqb-true m n f))))
 
--- applied twice is applied once
+-- Applying twice is applying once.
 twice : (o : Option Surface) → option_map applying (option_map applying o) ≡ option_map applying o
 twice None = refl
 twice (Some s) = refl
 
--- the numbers of one place more
+-- the numbers, with one more place
 among-more : (numbers : List ℕ) (i d other : ℕ) → i < length numbers → is_among (take (i + 1) numbers) other ≡ (is_among (take i numbers) other || (other == slice_index_or numbers i d))
 among-more numbers i d other less =
     list_any_more (λ n. n == other) numbers i d less ∙ ap (λ b. is_among (take i numbers) other || b) (turned (slice_index_or numbers i d) other)
 
--- one surface more is applied
+-- One more surface is applied.
 applied-more : (numbers : List ℕ) (i d : ℕ) → i < length numbers → (all : Numbered)
     → changed_at (slice_index_or numbers i d) applying (applied_among (take i numbers) all) ≡ applied_among (take (i + 1) numbers) all
 applied-more numbers i d less all =
@@ -56,7 +56,7 @@ applied-more numbers i d less all =
     at other false true = refl
     at other false false = refl
 
--- and its stack
+-- So is its stack.
 stacks-more : (numbers : List ℕ) (i d : ℕ) → i < length numbers → (stacks : ℕ → Stacks)
     → stacks_changed (slice_index_or numbers i d) applied (stacks_among (take i numbers) stacks) ≡ stacks_among (take (i + 1) numbers) stacks
 stacks-more numbers i d less stacks =
@@ -76,7 +76,7 @@ stacks-more numbers i d less stacks =
     at other true e = ap (λ n. applied (stacks_among (take i numbers) stacks n)) (sym (eqb-true other (slice_index_or numbers i d) e)) ∙ both other (is_among (take i numbers) other) true
     at other false e = both other (is_among (take i numbers) other) false
 
--- what is kept stands for that, the callbacks that wait do, and so are the stacks
+-- What is kept stands for that, and so do the callbacks that wait. So are the stacks.
 pub stand-next : (numbers : List ℕ) (i d : ℕ) → i < length numbers → (all : Numbered) (new : Slots)
     → StandForAll new (changed_at (slice_index_or numbers i d) applying (applied_among (take i numbers) all)) → StandForAll new (applied_among (take (i + 1) numbers) all)
 stand-next numbers i d less all new stand = subst (λ (now : Numbered). StandForAll new now) (applied-more numbers i d less all) stand
@@ -92,12 +92,12 @@ stacks-next numbers i d less first was now before step =
     step
     ∙ (ap (λ (ss : ℕ → Stacks). stacks_changed (slice_index_or numbers i d) applied ss) before ∙ stacks-more numbers i d less first)
 
--- of numbers that stand once none is among those before it
+-- Each number is there once, so none is among those before it.
 or-none : (a b : Bool) → (a || b) ≡ false → (a ≡ false) × (b ≡ false)
 or-none false b e = (refl, e)
 or-none true b e = absurd (cc)
 
--- a number is none of those that it isn't among
+-- A number is none of those among which it isn't.
 none-is : (m : ℕ) (ns : List ℕ) (i d : ℕ) → i < length ns → is_among ns m ≡ false → (m == slice_index_or ns i d) ≡ false
 none-is m [] i d less none = absurd (omega arith)
 none-is m (n ∷ ns) zero d less none = turned m n ∙ (or-none (n == m) (is_among ns m) none).0
@@ -110,7 +110,7 @@ once-before (n ∷ ns) (suc i) d less once =
     let fewer : i < length ns = omega (arith, less) in
     ap (λ b. b || is_among (take i ns) (slice_index_or ns i d)) (none-is n ns i d fewer once.0) ∙ once-before ns i d fewer once.1
 
--- it is told of one surface more
+-- One more surface is told of.
 told-more : {A : Type 0} (ns : List ℕ) (n : ℕ) (all : Numbered) (changes : List (Change A)) (one : Option (Change A)) → AreTold ns all changes → AreApplied n (all n) one
     → AreTold (ns ++ n ∷ []) all (changes ++ listed one)
 told-more [] n all changes one told applied = (one, [], applied, refl, ap (λ cs. cs ++ listed one) told ∙ sym (append-nil (listed one)))
@@ -122,7 +122,7 @@ told-more (m ∷ ms) n all changes one told applied = (
   ap (λ cs. cs ++ listed one) told.4 ∙ append_assoc (listed told.0) told.1 (listed one),
 )
 
--- so it is from the changes before to those after
+-- the same, from the changes before to those after
 pub told-next : {A : Type 0} (numbers : List ℕ) (i d : ℕ) (all : Numbered) (was new : List (Change A)) (one : Option (Change A)) → i < length numbers → AreOnce numbers
     → AreTold (take i numbers) all was → AreApplied (slice_index_or numbers i d) (applied_among (take i numbers) all (slice_index_or numbers i d)) one → new ≡ was ++ listed one
     → AreTold (take (i + 1) numbers) all new
@@ -134,7 +134,7 @@ told-next {A} numbers i d all was new one less once told applied is =
     subst (λ (cs : List (Change A)). AreTold (take (i + 1) numbers) all cs) (sym is)
     (subst (λ (ns : List ℕ). AreTold ns all (was ++ listed one)) (sym (take_more numbers i d less)) (told-more (take i numbers) n all was one told this))
 
--- behind what was told before
+-- the same, behind what was told before
 pub told-behind : {A : Type 0} (numbers : List ℕ) (i d : ℕ) (all : Numbered) (before was new : List (Change A)) (one : Option (Change A)) → i < length numbers → AreOnce numbers
     → AreToldAfter before (take i numbers) all was → AreApplied (slice_index_or numbers i d) (applied_among (take i numbers) all (slice_index_or numbers i d)) one → new ≡ was ++ listed one
     → AreToldAfter before (take (i + 1) numbers) all new

@@ -1,4 +1,5 @@
--- The numbers of a tree's places are those of the surface and of all that descend from it, each once.
+-- The numbers of a tree's places are those of the surface and of all that descend from it, each
+-- once.
 use Rattle.std.proofs.Common.{◌≡◌, ℕ, zero, suc, Bool, true, false, ◌||◌, ◌==◌, List, [], ◌∷◌, ◌++◌, ◌≤◌, map, take, drop, length, refl, ap, sym, ◌∙◌, eq-eqb}
 use Rattle.std.proofs.lemmas.Bool.{eqb-true}
 use Rattle.std.proofs.lemmas.List.{nil_from_length, take_all}
@@ -12,12 +13,12 @@ use Rattle.wl_surface.specs.Tree.{AreOnce, is_among}
 abbrev pub numbered_in : List Place → List ℕ
 numbered_in places = map (λ (p : Place). p.surface) places
 
--- a number is among them where its surface has a place
+-- A number is among them if its surface has a place.
 among-has : (number : ℕ) (places : List Place) → is_among (numbered_in places) number ≡ has_place number places
 among-has number [] = refl
 among-has number (p ∷ ps) = ap (λ b. (p.surface == number) || b) (among-has number ps)
 
--- what has no place has none among fewer
+-- What has no place among all has none among fewer.
 or-rest : (a b : Bool) → (a || b) ≡ false → b ≡ false
 or-rest true b e = absurd (cc)
 or-rest false b e = e
@@ -31,17 +32,17 @@ none-taken (suc n) surface (p ∷ ps) none = at (p.surface == surface) none (non
     at true e rest = e
     at false e rest = rest e
 
--- nor has it one past the first
+-- It has none behind the first.
 none-dropped : (n surface : ℕ) (places : List Place) → has_place surface places ≡ false → has_place surface (drop n places) ≡ false
 none-dropped zero surface places none = none
 none-dropped (suc n) surface [] none = refl
 none-dropped (suc n) surface (p ∷ ps) none = none-dropped n surface ps (or-rest (p.surface == surface) (has_place surface ps) none)
 
--- nor in a run
+-- It has none in a run.
 none-run : (start count surface : ℕ) (places : List Place) → has_place surface places ≡ false → has_place surface (run_at start count places) ≡ false
 none-run start count surface places none = none-taken count surface (drop start places) (none-dropped start surface places none)
 
--- a run of places that are there once is so
+-- Places that are there once are there once in a run.
 once-dropped : (n : ℕ) (places : List Place) → HaveOnce places → HaveOnce (drop n places)
 once-dropped zero places once = once
 once-dropped (suc n) [] once = tt
@@ -52,12 +53,12 @@ once-taken zero places once = tt
 once-taken (suc n) [] once = tt
 once-taken (suc n) (p ∷ ps) once = (none-taken n p.surface ps once.0, once-taken n ps once.1)
 
--- and so are their numbers
+-- So are their numbers.
 once-numbered : (places : List Place) → HaveOnce places → AreOnce (numbered_in places)
 once-numbered [] once = tt
 once-numbered (p ∷ ps) once = (among-has p.surface ps ∙ once.0, once-numbered ps once.1)
 
--- once all of a tree's places are numbered
+-- All of a tree's places are numbered.
 whole-tree : (tree : List Place) (numbers : List ℕ) (n : ℕ) → length tree ≤ n → numbers ≡ numbered_in (take n tree) → numbers ≡ numbered_in tree
 whole-tree tree numbers n all is = is ∙ ap numbered_in (take_all n tree all)
 
@@ -66,7 +67,7 @@ pub once-run : (tied : Tied) → HangTogether tied → (tree : List Place) → (
 once-run tied is tree run numbers n all so_far =
     rw (whole-tree tree numbers n all so_far, run.2) (once-numbered (run_at run.0 run.1 tied.places) (once-taken run.1 (drop run.0 tied.places) (once-dropped run.0 tied.places is.trees.once)))
 
--- whether a list is empty, by its length
+-- A list without length is empty.
 pub is-empty : (places : List Place) (b : Bool) → b ≡ (length places == 0) → b ≡ true → places ≡ []
 is-empty places b e f = nil_from_length places (eqb-true (length places) 0 (sym e ∙ f))
 
@@ -92,7 +93,7 @@ module _ (tied : Tied) (is : HangTogether tied) (top : ℕ) (tree : List Place)
   abbrev parents : Parents
   parents = parents_of (links_in tied)
 
-  -- of a surface that is there, the tree has those that are below it
+  -- The tree of a surface that is there has those that are below it.
   has-below : (surface : ℕ) → is_there top tied ≡ true → has_place surface tree ≡ is_under 16 parents top surface
   has-below surface there = at (is_there surface tied) refl
     where
@@ -106,7 +107,7 @@ module _ (tied : Tied) (is : HangTogether tied) (top : ℕ) (tree : List Place)
           ∙ (none-run run.0 run.1 surface tied.places e
           ∙ not-true (is_under 16 parents top surface) (λ under. apart e (alone-surface parents tied.places is.trees is.within 16 top surface e under)))
 
-  -- where the tree isn't empty, its numbers are those
+  -- If the tree isn't empty, its numbers are those.
   pub among-tree : (tree ≡ [] → ⊥) → (numbers : List ℕ) (n : ℕ) → length tree ≤ n → numbers ≡ numbered_in (take n tree)
       → (surface : ℕ) → is_among numbers surface ≡ is_under 16 (parents_of (links_in tied)) top surface
   among-tree some numbers n all is surface = ap (λ (ns : List ℕ). is_among ns surface) (whole-tree tree numbers n all is) ∙ (among-has surface tree ∙ at (is_there top tied) refl)
@@ -115,7 +116,7 @@ module _ (tied : Tied) (is : HangTogether tied) (top : ℕ) (tree : List Place)
       at true e = has-below surface e
       at false e = absurd (some (none e))
 
-  -- where it is empty, the surface isn't there, and no other is below it
+  -- If it is empty, the surface isn't there, and no other is below it.
   pub among-none : tree ≡ [] → (before numbers : List ℕ) → before ≡ [] → numbers ≡ before ++ top ∷ []
       → (surface : ℕ) → is_among numbers surface ≡ is_under 16 (parents_of (links_in tied)) top surface
   among-none empty before numbers first one surface = ap (λ (ns : List ℕ). is_among ns surface) (one ∙ ap (λ (ns : List ℕ). ns ++ top ∷ []) first) ∙ at (top == surface) refl

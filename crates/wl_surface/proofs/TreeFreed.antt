@@ -1,4 +1,4 @@
--- Those of some buffers that aren't busy, each once.
+-- The buffers of a list that aren't busy, each once.
 use Rattle.std.proofs.Common.{◌≡◌, ℕ, zero, suc, ◌+◌, ◌<◌, ◌≤◌, ◌==◌, ◌||◌, ◌&&◌, not, cond, Bool, true, false, Option, List, [], ◌∷◌, ◌++◌, map, take, length, refl, ap, sym, subst, ◌∙◌, arith}
 use Rattle.std.specs.Prelude.{count_by, slice_index_or}
 use Rattle.std.proofs.lemmas.Bool.{eqb-true}
@@ -18,7 +18,7 @@ one_if b = cond b 1 0
 abbrev count_of : ℕ → List ℕ → ℕ
 count_of buffer numbers = count_by (λ n. n == buffer) numbers
 
--- whether some surface has the property has one answer
+-- Whether some surface has the property has one answer.
 only-answer : (q : Option Surface → Bool) (all : Numbered) (a b : Bool) → IsAny q all a → IsAny q all b → a ≡ b
 only-answer q all true true s t = refl
 only-answer q all false false s t = refl
@@ -29,7 +29,7 @@ only-answer q all false true s t = absurd (differ (sym (s t.0) ∙ t.1)) where
   differ : false ≡ true → ⊥
   differ e = absurd (cc)
 
--- one more behind the others is counted, and one before them
+-- One more number is counted, behind the others or before them.
 counted-more : (xs : List ℕ) (n b : ℕ) → count_of b (xs ++ n ∷ []) ≡ count_of b xs + one_if (n == b)
 counted-more xs n b =
     let e : count_of b (xs ++ n ∷ []) ≡ count_of b xs + (0 + one_if (n == b)) = sum_by-append (λ m. one_if (m == b)) xs (n ∷ []) in
@@ -40,7 +40,7 @@ counted-first x xs b =
     let e : count_of b (x ∷ xs) ≡ (0 + one_if (x == b)) + count_of b xs = sum_by-append (λ m. one_if (m == b)) (x ∷ []) xs in
     omega (arith, e)
 
--- what is counted is among them
+-- A number that is counted is among them.
 among-counted : (xs : List ℕ) (b : ℕ) (is : Bool) → count_of b xs ≡ one_if is → is_among xs b ≡ is
 among-counted [] b true e = absurd (cc)
 among-counted [] b false e = refl
@@ -54,7 +54,7 @@ among-counted (x ∷ xs) b is e = at (x == b) (sym (counted-first x xs b) ∙ e)
         positive true g = refl
         positive false g = absurd (omega (arith, g))
 
--- how tests go with what is known
+-- how tests go with known answers
 or-false : (b : Bool) → (b || false) ≡ b
 or-false true = refl
 or-false false = refl
@@ -67,20 +67,20 @@ and-false : (b : Bool) → (b && false) ≡ false
 and-false true = refl
 and-false false = refl
 
--- a busy one frees nothing
+-- A busy buffer frees nothing.
 pub passed-busy : (among busy is same : Bool) → (same ≡ true → busy ≡ is) → busy ≡ true → (among && not is) ≡ ((among || same) && not is)
 passed-busy among busy is false answer e = ap (λ b. b && not is) (sym (or-false among))
 passed-busy among busy is true answer e =
     let on : is ≡ true = sym (answer refl) ∙ e in
     ap (λ b. among && not b) on ∙ (and-false among ∙ sym (ap (λ b. (among || true) && not b) on ∙ and-false (among || true)))
 
--- nor does one that is freed before
+-- Nor does one that was freed before.
 freed-before : (among is same : Bool) → (same ≡ true → (among && not is) ≡ true) → (among && not is) ≡ ((among || same) && not is)
 freed-before true is same before = refl
 freed-before false is false before = refl
 freed-before false is true before = absurd (let e = before refl in cc)
 
--- another one is freed
+-- Any other one is freed.
 freed-now : (among is same : Bool) → (same ≡ true → (is ≡ false) × ((among && not is) ≡ false)) → one_if (among && not is) + one_if same ≡ one_if ((among || same) && not is)
 freed-now among is false now = omega (arith, ap (λ b. one_if (b && not is)) (sym (or-false among)))
 freed-now among is true now =
@@ -130,24 +130,24 @@ module _ (shown freed : List ℕ) (i d : ℕ) (less : i < length shown) (here : 
 module _ (all : Numbered) (shown freed : List ℕ) (i d : ℕ) (less : i < length shown) (here : ℕ) (is_here : slice_index_or shown i d ≡ here)
     (busy : Bool) (answer : IsAny (shows_at here) all busy)
     (so_far : (buffer : ℕ) (is : Bool) → IsAny (shows_at buffer) all is → count_of buffer freed ≡ one_if (is_among (take i shown) buffer && not is)) where
-  -- what is counted of one shown buffer more
+  -- what is counted, with one more shown buffer
   more : (buffer : ℕ) (is : Bool) → one_if (is_among (take (i + 1) shown) buffer && not is) ≡ one_if ((is_among (take i shown) buffer || (here == buffer)) && not is)
   more buffer is =
       ap (λ b. one_if (b && not is)) (list_any_more (λ n. n == buffer) shown i d less ∙ ap (λ n. is_among (take i shown) buffer || (n == buffer)) is_here)
 
-  -- where that is the buffer asked for, both answers are the same
+  -- If that is the buffer asked for, both answers are the same.
   same-answer : (buffer : ℕ) (is : Bool) → IsAny (shows_at buffer) all is → (here == buffer) ≡ true → busy ≡ is
   same-answer buffer is any e =
       only-answer (shows_at buffer) all busy is (subst (λ n. IsAny (shows_at n) all busy) (eqb-true here buffer e) answer) any
 
-  -- it is busy
+  -- the next one is busy
   pub next-busy : busy ≡ true → (buffer : ℕ) (is : Bool) → IsAny (shows_at buffer) all is
       → count_by (λ n. n == buffer) freed ≡ cond (is_among (take (i + 1) shown) buffer && not is) 1 0
   next-busy e buffer is any =
       so_far buffer is any
       ∙ (ap one_if (passed-busy (is_among (take i shown) buffer) busy is (here == buffer) (same-answer buffer is any) e) ∙ sym (more buffer is))
 
-  -- it isn't, but is freed before
+  -- the next one isn't busy, but was freed before
   pub next-freed : (lent : List ℕ) → lent ≡ freed → (among : Bool) → among ≡ is_among lent here → among ≡ true → (buffer : ℕ) (is : Bool) → IsAny (shows_at buffer) all is
       → count_by (λ n. n == buffer) freed ≡ cond (is_among (take (i + 1) shown) buffer && not is) 1 0
   next-freed lent same among told e buffer is any =
@@ -158,7 +158,7 @@ module _ (all : Numbered) (shown freed : List ℕ) (i d : ℕ) (less : i < lengt
           sym (among-counted freed buffer (is_among (take i shown) buffer && not is) (so_far buffer is any))
           ∙ (ap (λ n. is_among freed n) (sym (eqb-true here buffer f)) ∙ (ap (λ (ns : List ℕ). is_among ns here) (sym same) ∙ (sym told ∙ e)))
 
-  -- it is freed now
+  -- the next one is freed now
   pub next-added : busy ≡ false → (lent : List ℕ) → lent ≡ freed → (among : Bool) → among ≡ is_among lent here → among ≡ false → (new : List ℕ) → new ≡ freed ++ here ∷ []
       → (buffer : ℕ) (is : Bool) → IsAny (shows_at buffer) all is
       → count_by (λ n. n == buffer) new ≡ cond (is_among (take (i + 1) shown) buffer && not is) 1 0

@@ -1,4 +1,4 @@
--- The buffers that surfaces have applied and held, as the surfaces are walked through.
+-- The buffers that surfaces have applied and held, as one walks through the surfaces.
 use Rattle.std.proofs.Common.{◌≡◌, ℕ, ◌+◌, ◌<◌, ◌==◌, ◌||◌, Bool, true, false, Option, Some, None, List, [], ◌∷◌, ◌++◌, inl, inr, map, take, length}
 use Rattle.std.proofs.Common.{refl, ap, sym, ◌∙◌, append_assoc, append-nil, arith}
 use Rattle.std.specs.Prelude.{slice_index_or}
@@ -42,12 +42,12 @@ listed-of : (o : Option Attached) → map buffer_of (listed o) ≡ listed (optio
 listed-of None = refl
 listed-of (Some a) = refl
 
--- those of one surface more are the last
+-- Those of one more surface are the last.
 shown-last : (ns : List ℕ) (n : ℕ) (all : Numbered) → shown_by (ns ++ n ∷ []) all ≡ shown_by ns all ++ shown_at (all n)
 shown-last [] n all = append-nil (shown_at (all n))
 shown-last (m ∷ ms) n all = ap (λ (bs : List Buffer). shown_at (all m) ++ bs) (shown-last ms n all) ∙ sym (append_assoc (shown_at (all m)) (shown_by ms all) (shown_at (all n)))
 
--- one surface more
+-- one more surface
 pub shown-more : (numbers : List ℕ) (i d : ℕ) (all : Numbered) (was mid now : List Attached) (buffers : List (Option Attached)) (h a : Option Attached) → i < length numbers
     → map buffer_of was ≡ shown_by (take i numbers) all → map (option_map buffer_of) buffers ≡ had_at (all (slice_index_or numbers i d))
     → mid ≡ was ++ listed (slice_index_or buffers 2 a) → now ≡ mid ++ listed (slice_index_or buffers 1 h)
@@ -70,7 +70,7 @@ shown-more numbers i d all was mid now buffers h a less so_far had first second 
     here : map buffer_of (listed (slice_index_or buffers 2 a) ++ listed (slice_index_or buffers 1 h)) ≡ shown_at (all (slice_index_or numbers i d))
     here = both (slice_index_or buffers 2 a) (slice_index_or buffers 1 h) ∙ shown-here buffers (all (slice_index_or numbers i d)) h a had
 
--- ---- what they are
+-- ---- which buffers they are
 
 -- nothing else is tested
 or-false : (b : Bool) → (b || false) ≡ b
@@ -82,12 +82,12 @@ among-one : (b : Option Buffer) (buffer : ℕ) → is_among (numbers_of (listed 
 among-one None buffer = refl
 among-one (Some b) buffer = or-false (b.number == buffer)
 
--- those of two lists
+-- the numbers of two lists
 among-both : (xs ys : List Buffer) (buffer : ℕ) → is_among (numbers_of (xs ++ ys)) buffer ≡ (is_among (numbers_of xs) buffer || is_among (numbers_of ys) buffer)
 among-both xs ys buffer =
     ap (λ (ns : List ℕ). is_among ns buffer) (map-append (λ (b : Buffer). b.number) xs ys) ∙ list_any-append (λ n. n == buffer) (numbers_of xs) (numbers_of ys)
 
--- and those of one surface
+-- the numbers of one surface's buffers
 among-at : (at : Option Surface) (buffer : ℕ) → is_among (numbers_of (shown_at at)) buffer ≡ shows_at buffer at
 among-at None buffer = refl
 among-at (Some s) buffer =
@@ -102,12 +102,12 @@ among-by (n ∷ ns) all buffer =
     ∙ (ap (λ b. b || is_among (numbers_of (shown_by ns all)) buffer) (among-at (all n) buffer)
     ∙ ap (λ b. shows_at buffer (all n) || b) (among-by ns all buffer))
 
--- those are among them that one of the surfaces shows
+-- A buffer is among them exactly if one of the surfaces shows it.
 pub among-shown : (ns : List ℕ) (all : Numbered) (shown : List Attached) → map buffer_of shown ≡ shown_by ns all
     → (buffer : ℕ) → is_among (numbers_of (map buffer_of shown)) buffer ≡ shown_among ns all buffer
 among-shown ns all shown e buffer = ap (λ (bs : List Buffer). is_among (numbers_of bs) buffer) e ∙ among-by ns all buffer
 
--- and each is as one of the surfaces shows it
+-- Each is as one of the surfaces shows it.
 pub shown-as : (ns : List ℕ) (all : Numbered) (b : Buffer) → Contains (shown_by ns all) b → (n : ℕ) × (is_among ns n ≡ true) × Contains (shown_at (all n)) b
 shown-as [] all b is = absurd (let less = is.1 in omega (arith, less))
 shown-as (m ∷ ms) all b is = elim (Contains-append_cases (shown_at (all m)) (shown_by ms all) b is) [

@@ -1,4 +1,4 @@
--- To apply a surface is to apply what descends from it.
+-- Applying a surface applies each surface that descends from it.
 use Rattle.std.proofs.Common.{◌≡◌, ℕ, zero, suc, ◌||◌, ◌&&◌, ◌==◌, Bool, true, false, cond, Option, Some, None, List, ◌∷◌, map, refl, ap, ◌∙◌, arith, []}
 use Rattle.std.specs.Prelude.{filter, find, fold, not}
 use Rattle.std.specs.List.{list_any}
@@ -19,7 +19,7 @@ pub same-id : (p : Bool) (s : Surface) → (cond p (applying s) s).id ≡ s.id
 same-id true s = refl
 same-id false s = refl
 
--- to apply these, and then those, is to apply both
+-- Applying these and then those applies both.
 pub applied-both : (p q : ℕ → Bool) (xs : List Surface)
     → map (λ (s : Surface). cond (q s.id) (applying s) s) (map (λ (s : Surface). cond (p s.id) (applying s) s) xs) ≡ map (λ (s : Surface). cond (p s.id || q s.id) (applying s) s) xs
 applied-both p q [] = refl
@@ -33,7 +33,7 @@ applied-same p q same (x ∷ xs) = rw (same x.id) (ap (λ (ys : List Surface). c
 
 -- ---- descent, seen from above
 
--- a child, by a link that lives, of this surface
+-- a child of this surface, by a living link
 abbrev pub is_below : ℕ → Link → Bool
 is_below top l = not l.has_ended && l.parent == top
 
@@ -45,14 +45,14 @@ mapped-cons : (b : Bool) (l : Link) (ls : List Link) → map (λ (k : Link). k.c
 mapped-cons true l ls = refl
 mapped-cons false l ls = refl
 
--- a child of these links has the property
+-- a child of these links with the property
 child-any : (top : ℕ) (p : ℕ → Bool) (ls : List Link) → list_any p (map (λ (l : Link). l.child) (filter (is_below top) ls)) ≡ list_any (λ l. is_below top l && p l.child) ls
 child-any top p [] = refl
 child-any top p (l ∷ ls) =
     ap (list_any p) (mapped-cons (is_below top l) l (filter (is_below top) ls))
     ∙ any-cons (is_below top l) p l.child (map (λ (k : Link). k.child) (filter (is_below top) ls)) _ (child-any top p ls)
 
--- of the links of a child that live, whether one is to this parent
+-- the living link of a child is to this parent
 abbrev pub is_child : ℕ → ℕ → Link → Bool
 is_child top child l = is_below top l && child == l.child
 
@@ -72,7 +72,7 @@ both-none a b e f = rw (e, f) refl
 same-number : (m n : ℕ) → (m == n) ≡ (n == m)
 same-number m n = grind (arith)
 
--- no link of the child lives, so none is to this parent
+-- No link of the child lives, so none is to this parent.
 none-below : (top child : ℕ) (ls : List Link) → list_any (is_live_of child) ls ≡ false → list_any (is_child top child) ls ≡ false
 none-below top child [] none = refl
 none-below top child (l ∷ ls) none =
@@ -101,7 +101,7 @@ found-child top child l ls false true e f once later =
     or-none true = refl
     or-none false = refl
 
--- a surface is a child of another one exactly where that is the parent by its link
+-- A surface is a child of another exactly if that is its parent by its link.
 pub child-of : (top child : ℕ) (ls : List Link) → AreOnceLinked ls
     → list_any (is_child top child) ls ≡ of_parent false (λ parent. parent == top) (find (is_live_of child) ls)
 child-of top child [] once = refl
@@ -147,7 +147,8 @@ descends-next n all top surface (Some l) first later =
     ∙ ap (λ b. b || by_child n all top l.parent) first
     ∙ ap (λ b. l.parent == top || b) (later l.parent)
 
--- A surface descends from a child of another one exactly where its parent is that or descends from it.
+-- A surface descends from a child of another exactly if its parent is the other or descends from
+-- it.
 pub descends-either : (n : ℕ) (all : Surfaces) → AreOnceLinked all.links → (top surface : ℕ) → by_child n all top surface ≡ by_parent n all top (link_of surface all)
 unfolding descends_from
 descends-either zero all once top surface = descends-once all once top surface
@@ -156,7 +157,7 @@ descends-either (suc n) all once top surface =
 
 -- ---- the tree is applied
 
--- the links stay, and so does descent
+-- The links stay, and so does descent.
 descends-applied : (n : ℕ) (p : ℕ → Bool) (all : Surfaces) (top surface : ℕ) → descends_from n (applied_where p all) top surface ≡ descends_from n all top surface
 unfolding descends_from
 descends-applied zero p all top surface = refl
@@ -181,7 +182,7 @@ or-three : (a b c : Bool) → ((a || b) || c) ≡ (a || (b || c))
 or-three true b c = refl
 or-three false b c = refl
 
--- one after another, each applies what descends from it
+-- Each in turn applies what descends from it.
 fold-where : (f : ℕ → Surfaces → Surfaces) (r : ℕ → ℕ → Bool) (all : Surfaces) → ((child : ℕ) (p : ℕ → Bool) → f child (applied_where p all) ≡ applied_where (r child) (applied_where p all))
     → (children : List ℕ) (p : ℕ → Bool) → fold (λ done child. f child done) (applied_where p all) children ≡ applied_where (λ id. p id || list_any (λ child. r child id) children) all
 fold-where f r all each [] p = where-same p (λ id. p id || false) all (λ id. or-none-left (p id))

@@ -1,4 +1,4 @@
--- What is kept of how surfaces hang together, once a surface has ended with its links.
+-- What is kept of how surfaces hang together, after a surface has ended with its links.
 use Rattle.std.proofs.Common.{◌≡◌, ℕ, inl, inr, ◌||◌, ◌&&◌, ◌==◌, Bool, true, false, cond, Option, Some, None, List, [], ◌∷◌, ◌++◌, take, refl, ap, sym, subst, ◌∙◌, arith, eq-eqb}
 use Rattle.std.specs.Prelude.{pos, filter_map, find, not, if◌then◌else◌}
 use Rattle.std.specs.List.{list_any}
@@ -33,7 +33,7 @@ use Rattle.wl_surface.proofs.Placing.{kept_of, live-found}
 keeps-end : (surface : ℕ) → KeepsLink (end_one surface)
 keeps-end surface = keeps-where (touches surface) ending keeps-ending
 
--- a link that lives then isn't with the surface
+-- A link that still lives isn't with the surface.
 end-lives : (surface : ℕ) (l : Link) (b : Bool) → touches surface l ≡ b → (end_one surface l).has_ended ≡ false → (touches surface l ≡ false) × (end_one surface l ≡ l)
 end-lives surface l false e lives = (e, ap (λ (b : Bool). cond b (ending l) l) e)
 end-lives surface l true e lives = absurd (let ended = ap (λ (b : Bool). (cond b (ending l) l).has_ended) e in let both = sym ended ∙ lives in cc)
@@ -137,7 +137,7 @@ places-named kids more rs (m ∷ ms) same = rw (here m same, places-named kids m
         ap (option_map (λ child. record { member = kept.Child child; x = (position k rs).0; y = (position k rs).1 }))
         (same k (ap (λ b. b || list_any (is_member (Child k)) ms) (eq-eqb k k refl)))
 
--- whoever stood there stands there at the end
+-- A child that stood there still does at the end.
 named-later : (k n : ℕ) (rs : List Request) → has_child k (take n rs) ≡ true → has_child k rs ≡ true
 named-later k n rs there = at (has_child k rs) refl
   where
@@ -145,7 +145,7 @@ named-later k n rs there = at (has_child k rs) refl
     at true e = e
     at false e = absurd (let both = sym there ∙ never-there k n rs e in cc)
 
--- who isn't named doesn't matter
+-- A child that isn't named doesn't matter.
 stacks-named : (kids more : Kids) (h : History) → ((k : ℕ) → has_child k h.requests ≡ true → kids k ≡ more k) → stacks_by kids h ≡ stacks_by more h
 stacks-named kids more h same = same-stacks (places-named kids more h.requests (order h.requests) same) (part (committed_at h.requests)) (part h.cut)
   where
@@ -189,14 +189,14 @@ module _ (old : Tied) (all : Surfaces) (surface : ℕ) (together : HangTogether 
   abbrev kids_left : Kids
   kids_left = kids_of ended
 
-  -- as many levels are enough
+  -- So many levels are enough.
   below-same : (n : ℕ) → descends_from 16 all surface n ≡ below n
   below-same n =
       same-descent all 16 surface n
       ∙ (sym (same-below (parents_of (links_of all)) old.places
       (subst (λ (ls : Links). StandFor old.places (parents_of ls)) (fun_ext hang.0.links) together.trees) together.within surface n) ∙ sym (same-descent all levels surface n))
 
-  -- no link that lives then is to this surface
+  -- No link that still lives is to this surface.
   no-parent : (number : ℕ) (link : Link) → link_at number ended ≡ Some link → link.has_ended ≡ false → (link.parent == surface) ≡ false
   no-parent number link e lives =
       let was = was-link (end_one surface) (keeps-end surface) (link_at number all) link (sym (at-each (end_one surface) (keeps-end surface) number all.links) ∙ e) in
@@ -206,13 +206,13 @@ module _ (old : Tied) (all : Surfaces) (surface : ℕ) (together : HangTogether 
   tied-left : AreTied (without_surface surface ended)
   tied-left = tied-without ended surface no-parent (each-tied (end_one surface) (keeps-end surface) (applied_where below all) (tied-applied below all hang.1))
 
-  -- of what a surface names, this one is its child no more
+  -- Of the links that a surface names, this one's child isn't its child any more.
   kid-named : (n k : ℕ) (h : History) → (n == surface) ≡ false → history_in n all ≡ Some h → has_child k h.requests ≡ true → kids_left k ≡ less surface (kids k)
   kid-named n k h other is named =
       ap kid_of (at-each (end_one surface) (keeps-end surface) k all.links)
       ∙ kid-left surface n (link_at k all) (λ link there lives. hang.1.parents n k h link is there lives named) other
 
-  -- it was a child of its parent alone
+  -- It was a child of its parent alone.
   kid-others : (n k : ℕ) (h : History) → history_in n all ≡ Some h → has_child k h.requests ≡ true
       → ((link : Link) → link_of surface all ≡ Some link → (n == link.parent) ≡ false) → less surface (kids k) ≡ kids k
   kid-others n k h is named apart = at (link_at k all) refl
@@ -236,7 +236,7 @@ module _ (old : Tied) (all : Surfaces) (surface : ℕ) (together : HangTogether 
   falls n other None is = refl
   falls n other (Some h) is = sym (stacks-named kids_left (λ k. less surface (kids k)) h (λ k named. kid-named n k h other is named) ∙ stacks-less surface kids h)
 
-  -- each other one keeps its own
+  -- Each other surface keeps its own stacks.
   stays : (n : ℕ) → (n == surface) ≡ false → ((link : Link) → link_of surface all ≡ Some link → (n == link.parent) ≡ false) → (o : Option History) → history_in n all ≡ o
       → stacks_at kids o ≡ stacks_at kids_left o
   stays n other apart None is = refl

@@ -1,4 +1,4 @@
--- The end of a surface with its links: each surface that descends from it is applied.
+-- The end of a surface and its links applies each surface that descends from it.
 use Rattle.std.proofs.Common.{◌≡◌, ℕ, ◌⊎◌, inl, inr, ◌||◌, ◌&&◌, ◌==◌, Bool, true, false, cond, Option, Some, None, List, [], ◌∷◌, ◌++◌, map, refl, ap, sym, subst, ◌∙◌, arith, eq-eqb, append_assoc}
 use Rattle.std.specs.Prelude.{filter, find, fold, not}
 use Rattle.std.specs.List.{list_any}
@@ -38,12 +38,12 @@ end-number : (b : Bool) (l : Link) → (cond b (ending l) l).number ≡ l.number
 end-number true l = refl
 end-number false l = refl
 
--- none lives that had ended
+-- No ended link lives again.
 end-live : (b : Bool) (c : ℕ) (l : Link) → is_live_of c l ≡ false → is_live_of c (cond b (ending l) l) ≡ false
 end-live true c l e = refl
 end-live false c l e = e
 
--- an ended link ends as it is
+-- Ending an ended link changes nothing.
 end-again : (b : Bool) (l : Link) → l.has_ended ≡ true → cond b (ending l) l ≡ l
 end-again true l e = ap (λ (b : Bool). record l { has_ended = b }) (sym e)
 end-again false l e = refl
@@ -74,7 +74,7 @@ once-ended surface (d ∷ ds) rest once = (
     lived true lives = absurd (cc)
     lived false lives = lives
 
--- the link of a child is what it was, or it was with the surface and has ended
+-- The link of a child is what it was, or it was with the surface and has ended.
 abbrev pub IsLeft : ℕ → ℕ → Option Link → Option Link → Type 0
 IsLeft surface c new old = (new ≡ old) ⊎ ((new ≡ None) × (l : Link) × (old ≡ Some l) × (touches surface l ≡ true) × ((l.child == c) ≡ true))
 
@@ -94,7 +94,7 @@ found-ended surface c (d ∷ ds) rest once = at (is_live_of c d) (touches surfac
         let here = end-live (touches surface d) c d e in
         rw (here, e) next
 
--- the link of its child, where it lives
+-- a living link is that of its child
 live-among : (ds rest : List Link) (l : Link) → AreOnceLinked (ds ++ l ∷ rest) → l.has_ended ≡ false → find (is_live_of l.child) (ds ++ l ∷ rest) ≡ Some l
 live-among [] rest l once lives = let here : is_live_of l.child l ≡ true = rw lives (eq-eqb l.child l.child refl) in rw here refl
 live-among (d ∷ ds) rest l once lives = at (is_live_of l.child d) refl (live-among ds rest l once.1 lives)
@@ -180,7 +180,8 @@ module _ (all : Surfaces) (surface : ℕ) (once : AreOnceLinked all.links) (apar
   abbrev lives_with : Link → Bool
   lives_with l = not l.has_ended && touches surface l
 
-  -- Once those of the first links ended, the rest end: of these surfaces the state is taken up to the last commit.
+  -- The first links have ended, and the rest end. So of these surfaces the state is taken up to the
+  -- last commit.
   record AreEnded (ds rest : List Link) (p : ℕ → Bool) : Type 0 where
     which : ℕ → Bool
     is : fold ended_in (state p (ended_with surface ds ++ rest)) (filter lives_with rest) ≡ state which (ended_with surface all.links)
@@ -188,7 +189,7 @@ module _ (all : Surfaces) (surface : ℕ) (once : AreOnceLinked all.links) (apar
     below : (id : ℕ) → which id ≡ true → (p id ≡ true) ⊎ (is_under 17 parents surface id ≡ true)
     reached : (child id : ℕ) → list_any (is_child surface child) rest ≡ true → is_under 16 (without surface parents) child id ≡ true → which id ≡ true
 
-  -- what is applied as this link ends
+  -- what the end of this link applies
   abbrev applied_by : List Link → List Link → Link → (ℕ → Bool) → ℕ → Bool
   applied_by ds rest l p id = descends_from 16 (state p (ended_with surface (ds ++ l ∷ []) ++ rest)) l.child id
 
@@ -204,7 +205,7 @@ module _ (all : Surfaces) (surface : ℕ) (once : AreOnceLinked all.links) (apar
         ∙ (applies-descendants (state p (ended_with surface (ds ++ l ∷ []) ++ rest)) (once-ended surface (ds ++ l ∷ []) rest (subst AreOnceLinked (sym further) once)) 16 l.child
         ∙ ap (λ (xs : List Surface). record { surfaces = xs; links = ended_with surface (ds ++ l ∷ []) ++ rest }) (applied-both p (applied_by ds rest l p) all.surfaces))
 
-    -- by no more links than there were
+    -- by no more links than before
     by-old : (p : ℕ → Bool) (id : ℕ) → applied_by ds rest l p id ≡ true → is_under 16 parents l.child id ≡ true
     by-old p id under =
         under-fewer 16 (parents_by (ended_with surface (ds ++ l ∷ []) ++ rest)) parents l.child id
@@ -212,7 +213,7 @@ module _ (all : Surfaces) (surface : ℕ) (once : AreOnceLinked all.links) (apar
         (parents-fewer surface (ds ++ l ∷ []) rest (subst AreOnceLinked (sym further) once)))
         (sym (same-descent (state p (ended_with surface (ds ++ l ∷ []) ++ rest)) 16 l.child id) ∙ under)
 
-    -- by no fewer than have nothing to do with the surface
+    -- by no fewer than those without the surface
     by-left : (p : ℕ → Bool) (id : ℕ) → is_under 16 (without surface parents) l.child id ≡ true → applied_by ds rest l p id ≡ true
     by-left p id under =
         same-descent (state p (ended_with surface (ds ++ l ∷ []) ++ rest)) 16 l.child id
@@ -253,7 +254,7 @@ module _ (all : Surfaces) (surface : ℕ) (once : AreOnceLinked all.links) (apar
       none-here false b c e f = f
       none-here true b c e f = absurd (cc)
 
-      -- the child is that of this link, or of a later one
+      -- The child is that of this link, or of a later one.
       first : (child : ℕ) (a b c : Bool) → (child == l.child) ≡ b → ((a && b) || c) ≡ true → (child ≡ l.child) ⊎ (c ≡ true)
       first child a true c e f = inl (eqb-true child l.child e)
       first child true false c e f = inr f
@@ -313,7 +314,7 @@ both-ways false false f g = refl
 both-ways true false f g = sym (f refl)
 both-ways false true f g = g refl
 
--- all the same without the surface
+-- the same without the surface
 without-same : (surface : ℕ) (p q : ℕ → Bool) → ((id : ℕ) → (id == surface) ≡ false → p id ≡ q id) → (xs : List Surface)
     → filter (λ s. not (s.id == surface)) (map (λ (s : Surface). cond (p s.id) (applying s) s) xs)
     ≡ filter (λ s. not (s.id == surface)) (map (λ (s : Surface). cond (q s.id) (applying s) s) xs)

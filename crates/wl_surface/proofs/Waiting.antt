@@ -14,7 +14,7 @@ use Rattle.wl_surface.specs.Surface.{Surface, asking}
 use Rattle.wl_surface.specs.Waiting.{next_of, without_next}
 use Rattle.wl_surface.proofs.Records.{For-unseen}
 
--- ---- a frame request: nothing of it is kept of the surface
+-- ---- a frame request, of which the surface keeps nothing
 
 frame-stands : (n : ℕ) (slot : Option Kept) (at : Option Surface) → StandsAt slot at → StandsAt slot (option_map (asking (Frame n)) at)
 frame-stands n None None t = tt
