@@ -1,4 +1,4 @@
-//! The requests of wl_buffer, which holds the pixels of a surface: its destroy.
+//! The request of wl_buffer, the content for a surface (wayland.xml, wl_buffer): its destroy.
 
 ghost use Rattle.std.specs.Prelude.{ℕ, Bool, ◌≡◌, ◌≤◌, length};
 ghost use Rattle.spec_desktop.specs.Judgement.{buffer_destroyed};

@@ -1,5 +1,5 @@
-//! The requests of wl_display, with which each connection begins: sync, a round trip, and
-//! get_registry.
+//! The requests of wl_display, the core object with which each connection begins (wayland.xml,
+//! wl_display): sync, a round trip, and get_registry.
 
 ghost use Rattle.std.specs.Prelude.{◌≡◌, ◌≤◌, length};
 ghost use Rattle.spec_desktop.specs.Judgement.{display_action};

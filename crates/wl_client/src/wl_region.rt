@@ -1,4 +1,5 @@
-//! The requests of wl_region, an area of a surface that adds and subtracts of rectangles make.
+//! The requests of wl_region, an area such as the opaque or the input region of a surface
+//! (wayland.xml, wl_region). They add and subtract rectangles.
 
 ghost use Rattle.std.specs.Prelude.{◌≡◌, ◌≤◌, length};
 ghost use Rattle.std.specs.Option.{option_map};

@@ -1,4 +1,5 @@
-//! The request of wl_registry: bind makes an object for a global.
+//! The request of wl_registry, which lists the globals of the compositor (wayland.xml,
+//! wl_registry). A bind makes an object for one of them.
 
 ghost use Rattle.std.specs.Prelude.{◌≡◌, ◌≤◌, length};
 ghost use Rattle.spec_desktop.specs.Judgement.{registry_action};

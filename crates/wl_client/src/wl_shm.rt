@@ -1,4 +1,5 @@
-//! The request of wl_shm: create_pool shares memory of the client with the compositor.
+//! The request of wl_shm, the global for shared memory (wayland.xml, wl_shm). It makes a pool of
+//! memory that the client shares with the compositor.
 
 ghost use Rattle.std.specs.Prelude.{◌≡◌, ◌≤◌, length};
 ghost use Rattle.spec_desktop.specs.Judgement.{shm_action};

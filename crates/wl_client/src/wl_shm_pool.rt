@@ -1,4 +1,5 @@
-//! The requests of wl_shm_pool, which cut buffers from shared memory and let it grow.
+//! The requests of wl_shm_pool, a piece of memory that client and compositor share (wayland.xml,
+//! wl_shm_pool). They make buffers in it, and let it grow.
 
 ghost use Rattle.std.specs.Prelude.{◌≡◌, ◌≤◌, length};
 ghost use Rattle.spec_desktop.specs.Judgement.{buffer_created, layout_refused, pool_action, pool_resized};

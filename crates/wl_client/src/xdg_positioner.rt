@@ -1,5 +1,5 @@
-//! The requests of xdg_positioner, which set the rules by which a popup is placed beside its
-//! parent.
+//! The requests of xdg_positioner, the rules by which a popup is placed beside its parent
+//! (xdg-shell.xml, xdg_positioner).
 
 ghost use Rattle.std.specs.Prelude.{◌≡◌, ◌≤◌, length};
 ghost use Rattle.spec_desktop.specs.Judgement.{positioner_action, set_if_allowed};

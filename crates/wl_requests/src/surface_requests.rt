@@ -1,5 +1,5 @@
-//! The requests of wl_surface, a rectangle of pixels: they set its pending state, and a commit
-//! applies that.
+//! The requests of wl_surface, a rectangular area that may be displayed on outputs (wayland.xml,
+//! wl_surface). They set its pending state, and a commit applies that.
 
 ghost use Rattle.std.specs.Prelude.{◌≡◌, ◌==◌, ◌+◌, ℕ, ℤ, if◌then◌else◌, Ok, Option, None, Some, is_some, true, unsigned_abs};
 ghost use Rattle.std.specs.List.{list_any};

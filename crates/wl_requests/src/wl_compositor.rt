@@ -1,4 +1,5 @@
-//! The requests of wl_compositor, which make surfaces and regions.
+//! The requests of wl_compositor, which combines the contents of surfaces into one output
+//! (wayland.xml, wl_compositor). They make surfaces and regions.
 
 ghost use Rattle.std.specs.Prelude.{ℕ, ◌≡◌, ◌↔◌, IsTrue, Ok};
 ghost use Rattle.wl_proto.specs.Messages.{wl_compositor_request};

@@ -1,4 +1,5 @@
-//! The request of wl_pointer, an input device such as a mouse: set_cursor, which sets its image.
+//! The request of wl_pointer, input devices such as mice that control the pointer of a seat
+//! (wayland.xml, wl_pointer). It sets the surface that has the pointer's image.
 
 ghost use Rattle.std.specs.Prelude.{ℕ};
 ghost use Rattle.wl_proto.specs.Messages.{wl_pointer_request};

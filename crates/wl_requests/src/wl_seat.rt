@@ -1,5 +1,5 @@
-//! The requests of wl_seat, a group of input devices: they make objects for these, here only a
-//! wl_pointer.
+//! The requests of wl_seat, a group of keyboards, pointers and touch devices (wayland.xml,
+//! wl_seat). They make the objects of these. Here a seat has a pointer alone.
 
 ghost use Rattle.std.specs.Prelude.{ℕ, ◌≡◌, Ok, false, is_some, true};
 ghost use Rattle.wl_proto.specs.Messages.{wl_seat_request};

@@ -1,4 +1,5 @@
-//! The requests of wl_subcompositor, which make a surface a subsurface of another.
+//! The requests of wl_subcompositor, the global for compositing subsurfaces (wayland.xml,
+//! wl_subcompositor). They make a surface a subsurface of another.
 
 ghost use Rattle.std.specs.Prelude.{ℕ, ◌≡◌, Ok, OnOk};
 ghost use Rattle.wl_proto.specs.Messages.{wl_subcompositor_request};

@@ -1,5 +1,8 @@
-//! The requests of wl_subsurface, which place a surface in its parent and say when its commits are
-//! applied. One whose link has ended, or whose surface is gone, is inert: it does nothing but go.
+//! The requests of wl_subsurface, an interface to a surface that was made a subsurface
+//! (wayland.xml, wl_subsurface). They place it in its parent, and say when its commits are applied.
+//!
+//! A wl_subsurface whose link has ended, or whose surface is gone, is inert. It does nothing but
+//! go.
 
 ghost use Rattle.std.specs.Prelude.{ℕ, List, ◌≡◌, ◌==◌, filter, is_some, not, true, None, Some};
 ghost use Rattle.law_desktop.specs.Subsurfaces.{AreOfSurfaces};

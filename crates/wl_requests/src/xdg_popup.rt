@@ -1,4 +1,5 @@
-//! The requests of xdg_popup, a short-lived surface beside its parent, as a menu.
+//! The requests of xdg_popup, a short-lived, temporary surface such as a menu or a tooltip
+//! (xdg-shell.xml, xdg_popup).
 
 ghost use Rattle.std.specs.Prelude.{ℕ, ◌≡◌, ◌&&◌, ◌||◌, IfSome, None, [], is_some, not, true};
 ghost use Rattle.wl_proto.specs.Messages.{xdg_popup_request};

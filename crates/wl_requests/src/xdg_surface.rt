@@ -1,5 +1,5 @@
-//! The requests of xdg_surface, what toplevels and popups have in common: role objects, window
-//! geometry and configures.
+//! The requests of xdg_surface, the base set of what toplevels and popups need of the compositor
+//! (xdg-shell.xml, xdg_surface): role objects, window geometry and configures.
 
 ghost use Rattle.std.specs.Prelude.{ℕ, ◌≡◌, ◌+◌, is_some, min, true};
 ghost use Rattle.wl_client.specs.Agreement.{IsPeer, most_counted};

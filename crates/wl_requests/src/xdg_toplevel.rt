@@ -1,5 +1,5 @@
-//! The requests of xdg_toplevel, a window of the desktop: its states, its sizes and titles, and
-//! moving it.
+//! The requests of xdg_toplevel, the role by which a surface is a window (xdg-shell.xml,
+//! xdg_toplevel). They set its title, its states and its sizes, and let the user move it.
 
 ghost use Rattle.std.specs.Prelude.{◌≡◌, ℕ};
 ghost use Rattle.wl_proto.specs.declared.interface.Interface.TheVariants.{XdgToplevel};

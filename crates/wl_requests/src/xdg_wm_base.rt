@@ -1,4 +1,5 @@
-//! The requests of xdg_wm_base, with which a client makes its surfaces windows of the desktop.
+//! The requests of xdg_wm_base, with which clients turn their surfaces into windows of a desktop
+//! (xdg-shell.xml, xdg_wm_base).
 
 ghost use Rattle.std.specs.Prelude.{ℕ, ◌≡◌, ◌↔◌, IsTrue, Ok};
 ghost use Rattle.wl_proto.specs.Messages.{xdg_wm_base_request};
