@@ -13,8 +13,14 @@ PARAGRAPH = 5  # sentences at most, besides a question or a name in bold at its 
 LINE = 100  # columns at most
 DOCS = 28_000  # words of docs/ at most
 HEAVY = re.compile(r"\b(that which|so that of|as far as|such that)\b", re.IGNORECASE)
-# Crates, and files of crates, whose comments aren't rewritten yet, besides the crates for tests and for measuring.
-UNWRITTEN_SOURCES = set()
+# Crates, and files of crates, whose comments aren't rewritten yet.
+UNWRITTEN_SOURCES = {
+    "test_faults",
+    "test_popups",
+    "test_session",
+    "test_support",
+    "test_windows",
+}
 # Pages whose tables are looked up and not read: their words don't count.
 LOOKED_UP = {"docs/CLAUSES.md", "docs/DEFINITIONS.md", "docs/PROTOCOL.md"}
 COMMENT = re.compile(r"\s*//[/!]?(?: (.*))?$")
@@ -96,7 +102,11 @@ def sources():
 
 
 def is_written(name):
-    return not name.startswith(("bench_", "test_")) and not {name, name.partition("/")[0]} & UNWRITTEN_SOURCES
+    return not {name, name.partition("/")[0]} & UNWRITTEN_SOURCES
+
+
+def is_product(name):
+    return not name.startswith(("bench_", "test_"))
 
 
 def comments_of(source):
@@ -128,7 +138,7 @@ class Style(unittest.TestCase):
 
     def test_root_files_say_where_to_begin(self):
         for name, text in sources().items():
-            if is_written(name) and name.endswith(("/src/lib.rt", "/src/main.rt")):
+            if is_product(name) and name.endswith(("/src/lib.rt", "/src/main.rt")):
                 with self.subTest(name):
                     number, lines = prose(comments_of(text))[0]
                     self.assertEqual(1, number, f"crates/{name} begins with what the crate is for")

@@ -1,4 +1,4 @@
-//! The run that `bench/blend` measures and compares: `blend_run`, called from C.
+//! The run of pixels that `bench/blend` measures and compares: `blend_run`, called from C.
 #![tactic(auto)]
 
 ghost use Rattle.std.specs.Prelude.{◌≡◌, ℕ, ◌*◌, ◌%◌, ◌<◌, length};

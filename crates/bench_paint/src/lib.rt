@@ -1,4 +1,5 @@
-//! The frames that `bench/paint` measures: a window over the whole output, painted again and again, called from C.
+//! The frames that `bench/paint` measures: a window over the whole output is painted again and
+//! again, called from C.
 #![tactic(auto)]
 
 ghost use Rattle.std.specs.Prelude.{◌≡◌, ◌≤◌};
@@ -18,8 +19,11 @@ const HEIGHT: u32 = 1080;
 
 const BLACK: Rgb = Rgb { r: 0, g: 0, b: 0 };
 
-/// Paints `rounds` frames of 1920 by 1080 from nothing, each of one window whose buffer has that many points at this scale, all bytes of which
-/// are `byte`, in the format of this number. How many were painted: none where memory is refused or the numbers are none of a surface.
+/// Paints `rounds` frames of 1920 by 1080 from nothing, each with one window. Its buffer has as
+/// many points at this scale, in the format of this number, and each of its bytes is `byte`.
+///
+/// The answer is how many were painted. It is 0 if memory is refused, or no surface can have these
+/// numbers.
 #[unsafe(no_mangle)]
 pub extern "C" fn bench_paint(
     alloc: Global,

@@ -1,5 +1,5 @@
-//! The program that `bench/ppm` measures: it writes one frame of 1920 by 1080 as PPM to the file that is named.
-//! Without a name it does nothing.
+//! The program that `bench/ppm` measures: it writes one frame of 1920 by 1080 as PPM to the file
+//! that is named. Without a name it does nothing.
 #![tactic(auto)]
 
 use std::io::{BufWriter, Write};

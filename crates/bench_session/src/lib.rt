@@ -13,8 +13,8 @@ const CONFIG: Config = Config {
     background: Rgb { r: 0, g: 0, b: 0 },
 };
 
-/// As many clients as are asked for send the bytes, one client after the other, and take what they are answered. Whether there was
-/// memory for a session.
+/// As many clients as are asked for send the bytes, one client after the other, and take what they
+/// are answered. Whether there was memory for a session.
 #[unsafe(no_mangle)]
 pub extern "C" fn bench_session_serve(alloc: Global, bytes: &[u8], clients: u32) -> bool {
     let Ok(mut session) = Session::new(alloc, CONFIG) else {

@@ -1,4 +1,5 @@
-//! The loops that `bench/store_write` measures: writes into a store, and stores that come and go, called from C.
+//! The loops that `bench/store_write` measures: writes into a store, and stores that come and go,
+//! called from C.
 #![tactic(auto)]
 
 ghost use Rattle.std.specs.Prelude.{◌≤◌};
@@ -6,8 +7,9 @@ ghost use Rattle.std.specs.Prelude.{◌≤◌};
 use std::alloc::Global;
 use wl_store::Stores;
 
-/// Makes a store of `size` bytes and writes the piece into it `rounds` times, each time after the
-/// place before, and from the start again where it would pass the end. How many writes were accepted.
+/// Makes a store of `size` bytes, and writes the piece into it `rounds` times. Each write goes
+/// behind the one before, or to the start if it would pass the end. The answer is how many were
+/// accepted.
 #[unsafe(no_mangle)]
 pub extern "C" fn bench_store_write(alloc: Global, size: i32, piece: &[u8], rounds: u32) -> u32
     ensures { result ≤ rounds }

@@ -1,2 +1,3 @@
-//! Worked recordings of the plain desktop, of viewers and of promises, computed on the definitions. There is no code here.
+//! Worked recordings of the plain desktop, of viewers and of promises, computed on the definitions.
+//! There is no code here.
 #![tactic(auto)]

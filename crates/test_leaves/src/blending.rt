@@ -179,7 +179,8 @@ fn runs_and_their_pixels(rt: HostRuntime) {
     assert!(rt; blends_runs(Format::Xrgb8888));
 }
 
-// To the nearest: a 255th of 127 is 0 and of 128 is 1. A sum of 300 is held at 255. Four pixels and one more.
+// To the nearest: a 255th of 127 is 0 and of 128 is 1. A sum of 300 is held at 255. Four pixels and
+// one more.
 #[test]
 fn worked_runs(rt: HostRuntime) {
     let src = [

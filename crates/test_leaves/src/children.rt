@@ -63,7 +63,8 @@ fn a_new_child_is_topmost(rt: HostRuntime) {
     assert!(rt; new_are_topmost(&mut children));
 }
 
-// Whether a place that is committed counts once the surface is applied, and none that was asked later.
+// Whether a place that is committed counts once the surface is applied, and none that was asked
+// later.
 fn applies_what_was_committed<A: Allocator + Copy>(children: &mut Children<A>) -> bool {
     let is_added = added(children, 1);
     children.hold();
@@ -94,7 +95,8 @@ fn a_commit_applies_nothing(rt: HostRuntime) {
 // A place that is asked for, and the order of all that is wanted then.
 type Place = (usize, Side, Member, [Member; 4]);
 
-// Beside a sibling, beside the surface, and where nothing changes or there is no such child; worked by hand.
+// Beside a sibling, beside the surface, and where nothing changes or there is no such child; worked
+// by hand.
 const PLACES: [Place; 8] = [
     (
         1,
@@ -232,8 +234,8 @@ fn no_child_needs_no_memory(rt: HostRuntime) {
     assert!(rt; !nothing.refused());
 }
 
-// How often a child is refused memory, 0 or 1, as it is added and then placed below the surface. None where it isn't answered so, or a refusal
-// doesn't leave the children as they were.
+// How often a child is refused memory, 0 or 1, as it is added and then placed below the surface.
+// None where it isn't answered so, or a refusal doesn't leave the children as they were.
 fn refusals<A: Allocator + Copy>(children: &mut Children<A>) -> Option<usize> {
     if !added(children, 1) {
         return if is_alone(children.pending()) {

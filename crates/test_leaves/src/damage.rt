@@ -168,7 +168,8 @@ fn edges_far_away(rt: HostRuntime) {
     assert!(rt; is_right);
 }
 
-// Whether a damage is made, and then marks a point. None where it doesn't, or an allocation was refused to it or none to what wasn't made.
+// Whether a damage is made, and then marks a point. None where it doesn't, or an allocation was
+// refused to it or none to what wasn't made.
 fn is_made<A: Allocator, B: Allocator>(
     made: Result<Damage<A>, AllocError>,
     heap: &Refusing<B>,

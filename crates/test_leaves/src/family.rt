@@ -90,7 +90,8 @@ fn child_at(child: SurfaceNo, x: i32, y: i32) -> Placed {
     }
 }
 
-// wl_subcompositor.get_subsurface: a chain down to the greatest depth, and nothing deeper, neither the surface nor one that stands below it.
+// wl_subcompositor.get_subsurface: a chain down to the greatest depth, and nothing deeper, neither
+// the surface nor one that stands below it.
 #[test]
 fn a_chain_of_children_has_a_greatest_depth(rt: HostRuntime) {
     let mut family = Family::new(rt.alloc());
@@ -119,7 +120,8 @@ fn a_mode_holds_for_all_below(rt: HostRuntime) {
     assert!(rt; !family.behaves_synchronised(1) && !family.behaves_synchronised(2));
 }
 
-// wl_subsurface.destroy and wl_surface.destroy: what stood below stays below, and the parent's stack is without the child at once.
+// wl_subsurface.destroy and wl_surface.destroy: what stood below stays below, and the parent's
+// stack is without the child at once.
 #[test]
 fn a_link_ends_in_the_middle(rt: HostRuntime) {
     let mut family = Family::new(rt.alloc());
@@ -139,7 +141,8 @@ fn a_link_ends_in_the_middle(rt: HostRuntime) {
     );
 }
 
-// wl_subcompositor.get_subsurface and wl_subsurface.destroy: a chain has one root, also the longest, and two once a link in it has ended.
+// wl_subcompositor.get_subsurface and wl_subsurface.destroy: a chain has one root, also the
+// longest, and two once a link in it has ended.
 #[test]
 fn a_chain_has_one_root(rt: HostRuntime) {
     let mut family = Family::new(rt.alloc());
@@ -154,7 +157,8 @@ fn a_chain_has_one_root(rt: HostRuntime) {
     assert!(rt; deep.root(MAX_DEPTH) == 0);
 }
 
-// wl_subsurface.place_above and place_below: beside the parent and its other children, whose parent needn't have committed.
+// wl_subsurface.place_above and place_below: beside the parent and its other children, whose parent
+// needn't have committed.
 #[test]
 fn a_child_is_placed_beside_its_siblings(rt: HostRuntime) {
     let mut family = Family::new(rt.alloc());

@@ -57,7 +57,8 @@ fn images_as_files(rt: HostRuntime) {
     assert!(rt; is_file(rt.alloc(), 1, 2, DAWN, IMAGE));
 }
 
-// Whether a call failed. None where that isn't what is answered, or what was written by then isn't the start of the image, or all of it.
+// Whether a call failed. None where that isn't what is answered, or what was written by then isn't
+// the start of the image, or all of it.
 fn has_failed<A: Allocator>(writer: &FaultyWriter<A>, is_done: bool) -> Option<bool> {
     let written = writer.written.as_slice();
     let has_failed = writer.has_failed();

@@ -1,5 +1,8 @@
-//! Tests of what knows no clients: regions, stores, painting, surfaces by themselves and linked, the windows of their trees, xdg_surfaces and the
-//! stack of toplevels, popups and how they are placed anew, the pointer and what it hits, positioners; with allocations that are refused.
+//! Tests of what knows no clients. They are about regions, stores and painting, about surfaces by
+//! themselves and in trees, and about xdg_surfaces, toplevels, popups and positioners. They are
+//! also about the pointer and what it hits, and about allocations that are refused.
+//!
+//! Begin with `regions`, whose tables the others are like.
 #![tactic(auto)]
 
 #[cfg(test)]

@@ -179,10 +179,12 @@ const ALL_PAINTED: &[u8] = &[
     255, 0, 127, 128, 255, 0, 127, 128, 255, 127, 127, 255, 255,
 ];
 
-/// What is said to be opaque: rows of points that are added, by their first columns and widths, and one that is taken out.
+/// What is said to be opaque: rows of points that are added, by their first columns and widths, and
+/// one that is taken out.
 type Part<'a> = (&'a [(i32, i32)], (i32, i32));
 
-/// None of it, all that is blue or a part of that, in one rectangle or in two, within the window or beyond it.
+/// None of it, all that is blue or a part of that, in one rectangle or in two, within the window or
+/// beyond it.
 const OPAQUE_PARTS: &[Part] = &[
     (&[], (0, 0)),
     (&[(0, 4)], (0, 0)),

@@ -1,10 +1,12 @@
-//! Pictures of buffers that are turned and scaled: which point of the buffer each point of the surface shows, worked by hand from the table of
-//! transforms (wayland.xml, wl_output.transform and wl_surface.set_buffer_scale).
+//! Pictures of buffers that are turned and scaled: which point of the buffer each point of the
+//! surface shows. They were worked by hand from the table of transforms (wayland.xml,
+//! wl_output.transform and wl_surface.set_buffer_scale).
 
 use std::alloc::Allocator;
 use wl_store::{Argb, Layout, Picture, Stores, layout};
 
-/// A row of a surface: for each of its points the column and the row of the buffer's pixel that it shows.
+/// A row of a surface: for each of its points the column and the row of the buffer's pixel that it
+/// shows.
 type Row<'a> = &'a [(u8, u8)];
 
 // The pixel in column x and row y of the buffer, which tells where it lies.

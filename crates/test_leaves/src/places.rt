@@ -49,7 +49,8 @@ struct Row {
     is_mapped: bool,
 }
 
-// A popup on a toplevel, with two of its own, the second of which is older; and one that isn't mapped, with one that is.
+// A popup on a toplevel, with two of its own, the second of which is older; and one that isn't
+// mapped, with one that is.
 const POPUPS: [Row; 5] = [
     Row {
         surface: 1,
@@ -211,8 +212,9 @@ fn root(surface: SurfaceNo, x: i32, y: i32) -> RootPlace {
     RootPlace { surface, x, y }
 }
 
-// xdg_popup: a popup stands at the corner of its parent's window geometry, so far from it as it was placed, less the start of its own; popups
-// come in order of creation, and those on one that isn't mapped not at all.
+// xdg_popup: a popup stands where it was placed, from the corner of its parent's window geometry,
+// less the start of its own. Popups come in order of creation. Those on one that isn't mapped don't
+// come.
 #[test]
 fn popups_stand_on_their_parents(rt: HostRuntime) {
     let mut owned = owned(rt.alloc());
@@ -230,7 +232,8 @@ fn maps<A: Allocator>(scene: &mut Scene<A>, spare: &mut Vec<Toplevel, A>) -> boo
     scene.map(TOPLEVEL, spare).is_ok()
 }
 
-// Whether parents stand where they should, with the toplevel unmapped at first and then at (32, 32).
+// Whether parents stand where they should, with the toplevel unmapped at first and then at (32,
+// 32).
 fn has_corners<A: Allocator + Copy>(owned: &Owned<A>, alloc: A) -> bool {
     let mut scene = Scene::new(alloc);
     let mut spare = Vec::new(alloc);

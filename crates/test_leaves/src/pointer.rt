@@ -18,7 +18,8 @@ fn does(actions: &Actions, wanted: &[Action]) -> bool {
     actions.as_slice() == wanted
 }
 
-// Goes to a point at this time, where this is hit: what is done before the focus is settled, and then.
+// Goes to a point at this time, where this is hit: what is done before the focus is settled, and
+// then.
 fn goes(focus: &mut Focus, time: u32, x: i32, y: i32, hit: Option<Target>) -> (Actions, Actions) {
     let before = focus.motion(Point { x, y });
     let then = focus.went(time, hit, true);

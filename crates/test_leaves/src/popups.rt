@@ -28,7 +28,8 @@ const PLACED: Option<Placed> = Some(Placed {
 /// What is done to a surface of a shell or asked of it, with what is wanted of it.
 #[derive(Clone, Copy)]
 enum Row {
-    /// It gets a popup of this parent with this number, by a positioner that is complete or isn't. Whether it has another role.
+    /// It gets a popup of this parent with this number, by a positioner that is complete or isn't.
+    /// Whether it has another role.
     GetsPopup(SurfaceNo, Option<SurfaceNo>, u64, bool, bool, Result<(), ShellError>),
     /// A commit with a buffer or none, at the next serial.
     Commits(SurfaceNo, bool, u32, Result<ShellAct, ShellError>),
@@ -259,8 +260,8 @@ const TOPLEVEL_GONE: &[Row] = &[
     Row::Destroys(4, Ok(())),
 ];
 
-// 4 is the oldest and the surfaces 2 and 3 are on it, one on the other: it goes by their creation, not by the surfaces. What was dismissed
-// before isn't answered again.
+// 4 is the oldest and the surfaces 2 and 3 are on it, one on the other: it goes by their creation,
+// not by the surfaces. What was dismissed before isn't answered again.
 const DISMISSED_BY_AGE: &[Row] = &[
     Row::GetsPopup(4, Some(1), 5, true, false, Ok(())),
     Row::GetsPopup(2, Some(4), 6, true, false, Ok(())),

@@ -38,7 +38,8 @@ const INSIDE_OUT: Rect = Rect {
 
 const REFUSED: Result<(), ShellError> = Err(ShellError::InvalidInput);
 
-// Sets a positioner to put popups below and to the right of a rectangle near the right edge of the output.
+// Sets a positioner to put popups below and to the right of a rectangle near the right edge of the
+// output.
 fn is_set(positioner: &mut Positioner, w: i32, adjustment: u32) -> bool {
     positioner.set_adjustment(adjustment);
     positioner.set_size(w, 50) == Ok(())

@@ -178,7 +178,8 @@ const THE_LAST_COLUMN: &[Row] = &[
     Row::CoversRun(2_147_483_647, 0, 0, true),
 ];
 
-// Five rectangles that are 10 wide, with a row between each two. Changes that don't meet them leave them whole.
+// Five rectangles that are 10 wide, with a row between each two. Changes that don't meet them leave
+// them whole.
 const FIVE: &[Row] = &[
     Row::Adds(0, 0, 10, 1),
     Row::Adds(0, 2, 10, 1),
@@ -242,7 +243,7 @@ fn missed_by(alloc: Global, parts: &[&[Row]]) -> Option<(usize, usize)> {
     missed(&mut region, parts)
 }
 
-// The case, its part and the row of that which are the first not to be met.
+// The first row that isn't met, with its case and its part.
 fn missed_case(alloc: Global, cases: &[(&str, &[&[Row]])]) -> Option<(usize, (usize, usize))> {
     for (place, &(_, parts)) in cases.iter().enumerate() {
         if let Some(row) = missed_by(alloc, parts) {
@@ -258,11 +259,13 @@ fn regions_are_as_worked(rt: HostRuntime) {
     assert_eq!(rt; missed_case(rt.alloc(), CASES), None);
 }
 
-// How many changes are made where each allocation is refused in turn: so many that the room for them grows while some are left to make.
+// How many changes are made where each allocation is refused in turn: so many that the room for
+// them grows while some are left to make.
 const MOST: u32 = 8;
 
-// How many of the changes and a copy are done where so many allocations are served. None where one is refused though no allocation was, or for
-// anything but that memory ran out, or where the region isn't left as it was.
+// How many of the changes and a copy are done where so many allocations are served. None where one
+// is refused though no allocation was, or for anything but that memory ran out, or where the region
+// isn't left as it was.
 fn done_before_a_refusal<B: Allocator + Copy>(alloc: B, served: u64) -> Option<u32> {
     let heap = Refusing::new(alloc, served);
     let mut region = Region::new(&heap);
@@ -285,7 +288,8 @@ fn changes_and_copies<A: Allocator + Copy, B: Allocator + Copy>(
     copies(region, known, heap)
 }
 
-// One more than the changes where the region is copied, and as many where the memory for it is refused.
+// One more than the changes where the region is copied, and as many where the memory for it is
+// refused.
 fn copies<A: Allocator + Copy, B: Allocator>(
     region: &Region<A>,
     known: &Region<B>,
@@ -301,7 +305,8 @@ fn copies<A: Allocator + Copy, B: Allocator>(
     if is_right { Some(done) } else { None }
 }
 
-// Does the first so many of four adds and four subtracts, up to the first that is refused: how many were done.
+// Does the first so many of four adds and four subtracts, up to the first that is refused: how many
+// were done.
 fn change<A: Allocator + Copy>(region: &mut Region<A>, most: u32) -> Option<u32> {
     for done in 0..most {
         let changed = match done {
@@ -342,8 +347,9 @@ fn errors_have_numbers(rt: HostRuntime) {
     assert!(rt; FrameError::BadSize as u8 == 1 && FrameError::Memory as u8 == 2);
 }
 
-// Whether a row of so many points covers a run of them, and none that is a point longer or begins a point before; and none at all
-// where the point in the middle is missing, but the runs on both sides of it.
+// Whether a row of so many points covers a run of as many. It covers none that is a point longer,
+// or begins a point before. Without the point in the middle it covers the runs on both sides, and
+// not the whole.
 fn covers_its_width(region: &mut Region<Global>, w: i32) -> bool {
     let wide = w.unsigned_abs();
     let middle = w / 2;

@@ -32,7 +32,8 @@ fn square(at: i32, side: i32) -> Rect {
     }
 }
 
-// How many points of an output of 64 by 64 are marked, where the tree was this and is that, and a surface was damaged there.
+// How many points of an output of 64 by 64 are marked, where the tree was this and is that, and a
+// surface was damaged there.
 fn marked(
     alloc: Global,
     was: &[TreeWindow],
@@ -56,8 +57,8 @@ fn marked(
     Some(damage.count())
 }
 
-// wl_surface.damage, wl_subsurface.set_position: where the windows stay, the damage alone is marked, cut to its surface; where one moves, all of
-// the tree, as it was and as it is.
+// wl_surface.damage, wl_subsurface.set_position: where the windows stay, the damage alone is
+// marked, cut to its surface; where one moves, all of the tree, as it was and as it is.
 #[test]
 fn a_tree_is_marked(rt: HostRuntime) {
     let alloc = rt.alloc();
@@ -96,7 +97,8 @@ fn with_popup(at: (i32, i32)) -> [TreeWindow; 2] {
     [window(0, (0, 0), 8), popup]
 }
 
-// How many points of an output of 64 by 64 are marked, where these were the windows of several trees and those are.
+// How many points of an output of 64 by 64 are marked, where these were the windows of several
+// trees and those are.
 fn marked_trees(alloc: Global, was: &[TreeWindow], is: &[TreeWindow]) -> Option<u32> {
     let Ok(mut damage) = Damage::new(alloc, 64, 64) else {
         return None;

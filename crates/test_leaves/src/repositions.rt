@@ -172,7 +172,8 @@ const ONE_AT_A_TIME: &[Row] = &[
     Row::Commits(true, 5, Ok(ShellAct::Place(NEARER))),
 ];
 
-// What was acknowledged and what wasn't is forgotten; the commit that configures it again places it by the last copy, at once.
+// What was acknowledged and what wasn't is forgotten; the commit that configures it again places it
+// by the last copy, at once.
 const UNMAPPED: &[Row] = &[
     Row::Repositions(-8, 3, Ok(Some(NEAR))),
     Row::Acknowledges(3, Ok(())),
@@ -195,7 +196,8 @@ const FRESH: &[Row] = &[
     Row::Stands(Some(NEAR), None),
 ];
 
-// Before its first configure is acknowledged, and then before it is mapped: a commit without a buffer puts it there, and the one that maps it.
+// Before its first configure is acknowledged, and then before it is mapped: a commit without a
+// buffer puts it there, and the one that maps it.
 const UNMAPPED_YET: &[Row] = &[
     Row::Commits(false, 2, Ok(ShellAct::Configure(Some(CORNER)))),
     Row::Repositions(-8, 3, Ok(Some(NEAR))),

@@ -124,7 +124,8 @@ fn a_mapping_without_memory_changes_nothing(rt: HostRuntime) {
     assert!(rt; maps_no_more(&mut empty, &mut no_room, 0));
 }
 
-// Whether a spare place with room for three toplevels takes one, and another such place the next two.
+// Whether a spare place with room for three toplevels takes one, and another such place the next
+// two.
 fn maps_into_room<A: Allocator + Copy>(scene: &mut Scene<A>, alloc: A) -> bool {
     let mut spare = Vec::new(alloc);
     let mut other = Vec::new(alloc);

@@ -159,7 +159,8 @@ fn is_seen<A: Allocator>(shell: &Shell<A>, row: &Row) -> bool {
     }
 }
 
-// Toplevel 21 asks for a geometry, is configured by its first commit, mapped, unmapped and destroyed.
+// Toplevel 21 asks for a geometry, is configured by its first commit, mapped, unmapped and
+// destroyed.
 const FROM_ITS_MAKING_ON: &[Row] = &[
     Row::GetsXdgSurface(20, false, false, Ok(())),
     Row::GetsToplevel(21, false, Ok(())),
@@ -187,7 +188,8 @@ const FROM_ITS_MAKING_ON: &[Row] = &[
     Row::IsThere(false),
 ];
 
-// An xdg_surface, then what is asked of it before it has a role, then its toplevel. What is refused leaves the first that was made.
+// An xdg_surface, then what is asked of it before it has a role, then its toplevel. What is refused
+// leaves the first that was made.
 const REFUSED: &[Row] = &[
     Row::GetsXdgSurface(20, true, true, Err(ShellError::Role)),
     Row::GetsXdgSurface(20, false, true, Err(ShellError::InvalidSurfaceState)),
@@ -263,7 +265,8 @@ fn shells_are_as_worked(rt: HostRuntime) {
     assert_eq!(rt; missed_case(rt.alloc(), CASES), None);
 }
 
-// Makes xdg_surfaces up to the first that is refused as out of memory: how many were made. None where another error comes.
+// Makes xdg_surfaces up to the first that is refused as out of memory: how many were made. None
+// where another error comes.
 fn made<A: Allocator + Copy>(shell: &mut Shell<A>) -> Option<usize> {
     for surface in 0..1000_usize {
         match get_xdg_surface(shell, surface, surface as u32, false, false) {

@@ -18,7 +18,8 @@ fn window(surface: SurfaceNo) -> TreeWindow {
     }
 }
 
-// Whether these are the windows from bottom to top, each by its client, its toplevel and its surface.
+// Whether these are the windows from bottom to top, each by its client, its toplevel and its
+// surface.
 fn has<A: Allocator>(all: &StackedWindows<A>, wanted: &[(u32, SurfaceNo, SurfaceNo)]) -> bool {
     let windows = all.windows();
     if windows.len() != wanted.len() {
@@ -35,7 +36,8 @@ fn has<A: Allocator>(all: &StackedWindows<A>, wanted: &[(u32, SurfaceNo, Surface
     true
 }
 
-// The windows of a toplevel of the client 1 below those of one of the client 2, and another of the client 1 on top.
+// The windows of a toplevel of the client 1 below those of one of the client 2, and another of the
+// client 1 on top.
 fn three_toplevels<A: Allocator>(all: &mut StackedWindows<A>) -> bool {
     for (client, toplevel, surfaces) in [
         (1, 3, [window(3), window(4)]),
@@ -48,7 +50,8 @@ fn three_toplevels<A: Allocator>(all: &mut StackedWindows<A>) -> bool {
     !all.has_toplevel(1, 7) && all.push(1, 7, &[window(7)]).is_ok()
 }
 
-// Whether these are the windows from bottom to top, each by its client and its surface, where `window` has them.
+// Whether these are the windows from bottom to top, each by its client and its surface, where
+// `window` has them.
 fn reads<A: Allocator>(all: &StackedWindows<A>, wanted: &[(u32, SurfaceNo)]) -> bool {
     let count = all.len();
     for (k, (client, surface)) in wanted.iter().enumerate() {
@@ -77,7 +80,8 @@ fn windows_are_read_one_by_one(rt: HostRuntime) {
     assert!(rt; reads(&all, &[(1, 3), (1, 4), (2, 5), (2, 3), (1, 7)]));
 }
 
-// xdg_surface: the windows stacked with a toplevel stand together, and others take their place where they stood.
+// xdg_surface: the windows stacked with a toplevel stand together, and others take their place
+// where they stood.
 #[test]
 fn a_toplevel_keeps_its_place(rt: HostRuntime) {
     let mut all = StackedWindows::new(rt.alloc());
@@ -162,7 +166,8 @@ fn has_run_of<A: Allocator>(all: &StackedWindows<A>, wanted: &[TreeWindow]) -> b
     true
 }
 
-// xdg_toplevel.move: the windows of a toplevel come to another place of the output, and stay where they are in the stack.
+// xdg_toplevel.move: the windows of a toplevel come to another place of the output, and stay where
+// they are in the stack.
 #[test]
 fn a_toplevel_comes_to_another_place(rt: HostRuntime) {
     let mut surfaces = Surfaces::new(rt.alloc());
@@ -203,7 +208,8 @@ fn of_popup(surface: SurfaceNo, root: SurfaceNo) -> TreeWindow {
     }
 }
 
-// xdg_popup: the windows of a popup's tree are stacked with its toplevel, which is found by its root.
+// xdg_popup: the windows of a popup's tree are stacked with its toplevel, which is found by its
+// root.
 #[test]
 fn popups_are_stacked_with_their_toplevel(rt: HostRuntime) {
     let mut all = StackedWindows::new(rt.alloc());

@@ -4,7 +4,8 @@ use crate::states::Row;
 use wl_store::Transform;
 use wl_surface::{Role, SurfaceError};
 
-// The buffer 7 is shown only from the commit after its attach on, and gone only from the commit after that of none on.
+// The buffer 7 is shown only from the commit after its attach on, and gone only from the commit
+// after that of none on.
 const FROM_ITS_ATTACH_ON: &[Row] = &[
     Row::Creates(Ok(0)),
     Row::Reads(0, false, false, false),
@@ -24,7 +25,8 @@ const FROM_ITS_ATTACH_ON: &[Row] = &[
     Row::HasNoSize,
 ];
 
-// A commit without an attach shows the buffer still, and one that is attached frees the one before, which another surface then shows.
+// A commit without an attach shows the buffer still, and one that is attached frees the one before,
+// which another surface then shows.
 const ONE_AFTER_ANOTHER: &[Row] = &[
     Row::Creates(Ok(0)),
     Row::Creates(Ok(1)),

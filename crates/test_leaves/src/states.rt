@@ -186,7 +186,8 @@ pub(crate) enum Row {
     UnsetsOpaque,
     /// The surface 0 gets no input region.
     UnsetsInput,
-    /// The buffer 7 is attached to the surface 0 at this offset, and a commit moves it to this place.
+    /// The buffer 7 is attached to the surface 0 at this offset, and a commit moves it to this
+    /// place.
     Moves((i32, i32), i32, i32),
     /// Whether the buffer 7 is used and busy, and a surface has content.
     Reads(SurfaceNo, bool, bool, bool),
@@ -290,7 +291,7 @@ fn missed_by(alloc: Global, parts: &[&[Row]]) -> Option<(usize, usize)> {
     missed(&mut surfaces, parts)
 }
 
-// The case, its part and the row of that which are the first not to be met.
+// The first row that isn't met, with its case and its part.
 fn missed_case(alloc: Global, cases: &[(&str, &[&[Row]])]) -> Option<(usize, (usize, usize))> {
     for (place, &(_, parts)) in cases.iter().enumerate() {
         if let Some(row) = missed_by(alloc, parts) {
@@ -306,7 +307,8 @@ fn surfaces_are_as_worked(rt: HostRuntime) {
     assert_eq!(rt; missed_case(rt.alloc(), CASES), None);
 }
 
-// Opaque without a region is nothing from the commit on, and input stays. Input without a region is everything from the commit on.
+// Opaque without a region is nothing from the commit on, and input stays. Input without a region is
+// everything from the commit on.
 const UNSETS: &[Row] = &[
     Row::UnsetsOpaque,
     Row::IsOpaque(3, 3, true),
@@ -358,7 +360,8 @@ const COMMITTED: &[Row] = &[
     Row::IsAt(1, 2),
 ];
 
-// Makes surfaces up to the first that is refused as out of memory: how many were made. None where another error comes.
+// Makes surfaces up to the first that is refused as out of memory: how many were made. None where
+// another error comes.
 fn made<A: Allocator + Copy>(surfaces: &mut Surfaces<A>) -> Option<SurfaceNo> {
     for number in 0..256_usize {
         match create(surfaces) {
@@ -404,8 +407,9 @@ fn a_surface_without_memory_is_not_made(rt: HostRuntime) {
     }
 }
 
-// Makes a surface, attaches buffer 7 at (1, 2), damages and commits, up to the first call that is refused as out of memory: how many of the three
-// that take memory were done. None where a call answers what it can't.
+// Makes a surface, attaches buffer 7 at (1, 2), damages and commits, up to the first call that is
+// refused as out of memory. The answer is how many were done of the three that take memory. It is
+// None if a call answers what it can't.
 fn done_before_a_refusal<A: Allocator + Copy>(surfaces: &mut Surfaces<A>) -> Option<u32> {
     match create(surfaces) {
         Ok(0) => {}
@@ -491,7 +495,8 @@ fn damage_without_end(rt: HostRuntime) {
     assert!(rt; takes_no_more_memory(&mut surfaces, &heap));
 }
 
-// Sets both regions, up to the first that is refused as out of memory: how many were set. None where a call answers what it can't.
+// Sets both regions, up to the first that is refused as out of memory: how many were set. None
+// where a call answers what it can't.
 fn set_both<A: Allocator + Copy>(surfaces: &mut Surfaces<A>, region: &Region<A>) -> Option<u32> {
     match set_opaque(surfaces, Some(region)) {
         Ok(()) => {}
@@ -505,7 +510,8 @@ fn set_both<A: Allocator + Copy>(surfaces: &mut Surfaces<A>, region: &Region<A>)
     }
 }
 
-// How many regions were set, and 3 where a commit was done after both. None where an allocation was refused to both, or none to one.
+// How many regions were set, and 3 where a commit was done after both. None where an allocation was
+// refused to both, or none to one.
 fn sets_and_commits<A: Allocator + Copy, B: Allocator>(
     surfaces: &mut Surfaces<A>,
     region: &Region<A>,

@@ -341,8 +341,9 @@ fn a_picture_lends(rt: HostRuntime) {
     assert!(rt; lends_3_by_2(&mut stores) && is_too_long(&stores));
 }
 
-// Two creates, a write and a resize, up to the first that is refused as out of memory: how many stores there are then, and 3 where none
-// was refused. None where another error came or the stores aren't what the calls that were done made of them.
+// Two creates, a write and a resize, up to the first that is refused as out of memory: how many
+// stores there are then, and 3 where none was refused. None where another error came or the stores
+// aren't what the calls that were done made of them.
 fn done_before_a_refusal<A: Allocator + Copy>(stores: &mut Stores<A>) -> Option<u32> {
     match create(stores, 16) {
         Ok(1) => {}

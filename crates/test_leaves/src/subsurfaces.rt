@@ -1,4 +1,5 @@
-//! Ids that rise, and the wl_subsurfaces of surfaces, with each allocation refused in turn, alone: nothing changes then, and the same call succeeds after it.
+//! Ids that rise, and the wl_subsurfaces of surfaces, with each allocation refused in turn, alone:
+//! nothing changes then, and the same call succeeds after it.
 
 ghost use Rattle.std.specs.List.Sorted.{IsStrictlyIncreasing};
 
@@ -10,7 +11,8 @@ use wl_table::put_rising;
 /// More allocations than any of these takes.
 const MANY: u64 = 100;
 
-/// Puts an id among others, and again where that is refused memory. False where something else is left.
+/// Puts an id among others, and again where that is refused memory. False where something else is
+/// left.
 fn puts<A: Allocator>(ids: &mut Vec<u32, A>, id: u32, refused: &mut u32) -> bool
     requires { IsStrictlyIncreasing ids.old.items }
     ensures { IsStrictlyIncreasing ids.new.items }
@@ -38,7 +40,8 @@ fn puts_all<A: Allocator>(ids: &mut Vec<u32, A>, refused: &mut u32) -> bool
         && ids.as_slice() == [1, 4, 7, 9, 12].as_slice()
 }
 
-/// Whether an allocation was refused, and the call that it was for. None where something is otherwise.
+/// Whether an allocation was refused, and the call that it was for. None where something is
+/// otherwise.
 fn puts_with(alloc: Global, served: u64) -> Option<bool> {
     let heap = Refusing::once(alloc, served);
     let mut refused = 0u32;
@@ -50,7 +53,8 @@ fn puts_with(alloc: Global, served: u64) -> Option<bool> {
     }
 }
 
-/// Makes a wl_subsurface of a surface, and again where that is refused memory. False where something else is left.
+/// Makes a wl_subsurface of a surface, and again where that is refused memory. False where
+/// something else is left.
 fn sets<A: Allocator>(
     subsurfaces: &mut Subsurfaces<A>,
     surface: usize,
@@ -91,7 +95,8 @@ fn sets_with(alloc: Global, served: u64) -> Option<bool> {
     }
 }
 
-/// How many allocations were refused, one in each of as many lists. None where something was otherwise.
+/// How many allocations were refused, one in each of as many lists. None where something was
+/// otherwise.
 fn refused_puts(alloc: Global) -> Option<u64> {
     for served in 0..MANY {
         if !puts_with(alloc, served)? {

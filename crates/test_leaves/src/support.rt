@@ -27,7 +27,8 @@ fn cannot_allocate<A: Allocator>(alloc: A) -> bool {
     list.is_err()
 }
 
-// Whether the work was refused memory. None where that isn't answered so, or all after it isn't refused.
+// Whether the work was refused memory. None where that isn't answered so, or all after it isn't
+// refused.
 fn is_refused(alloc: Global, served: u64) -> Option<bool> {
     let heap = Refusing::new(alloc, served);
     let done = work(&heap);

@@ -69,7 +69,8 @@ fn shown<A: Allocator>(surfaces: &Surfaces<A>, surface: SurfaceNo) -> Option<Buf
     Some(current.buffer?.number)
 }
 
-// Whether an answer tells just this: of each of these surfaces, in this order, so many rectangles, and that these buffers are freed.
+// Whether an answer tells just this: of each of these surfaces, in this order, so many rectangles,
+// and that these buffers are freed.
 fn tells<A: Allocator>(
     answer: Result<Applied<A>, SurfaceError>,
     wanted: &[(SurfaceNo, usize)],
@@ -86,7 +87,8 @@ fn tells<A: Allocator>(
     }
 }
 
-// Whether an answer tells that just these buffers were shown, in this order, each as it was attached.
+// Whether an answer tells that just these buffers were shown, in this order, each as it was
+// attached.
 fn tells_shown<A: Allocator>(
     answer: Result<Applied<A>, SurfaceError>,
     wanted: &[BufferNo],
@@ -124,7 +126,8 @@ fn has_child<A: Allocator + Copy>(surfaces: &mut Surfaces<A>) -> bool {
         && tells(surfaces.commit(ROOT), &[(ROOT, 0), (CHILD, 1)], &[])
 }
 
-// Whether surfaces without children tell what their commits and their ends change, and free a buffer once none of them shows it.
+// Whether surfaces without children tell what their commits and their ends change, and free a
+// buffer once none of them shows it.
 fn tells_what_changes<A: Allocator + Copy>(surfaces: &mut Surfaces<A>) -> bool {
     let is_shown = made(surfaces, 2) && commits(surfaces, 0, 7, &[(0, 1)], &[]);
     attach(surfaces, 0, 8);
@@ -143,8 +146,9 @@ fn changes_are_told(rt: HostRuntime) {
     assert!(rt; tells_what_changes(&mut surfaces));
 }
 
-// Whether commits of a synchronised child are held, the later in the place of the earlier with the damage of both, and applied by a commit of its
-// parent. A buffer is released where no surface holds or shows it any more.
+// Whether commits of a synchronised child are held, the later in the place of the earlier with the
+// damage of both, and applied by a commit of its parent. A buffer is released where no surface
+// holds or shows it any more.
 fn holds_commits<A: Allocator + Copy>(surfaces: &mut Surfaces<A>) -> bool {
     has_child(surfaces)
         && shown(surfaces, CHILD) == Some(18)
@@ -224,7 +228,8 @@ fn commit_tells_shown<A: Allocator + Copy>(
     tells_shown(surfaces.commit(surface), wanted)
 }
 
-// Whether what surfaces had applied and held before is told of those that a call applies, holds or ends, and of no others.
+// Whether what surfaces had applied and held before is told of those that a call applies, holds or
+// ends, and of no others.
 fn tells_what_was_shown<A: Allocator + Copy>(surfaces: &mut Surfaces<A>) -> bool {
     has_child(surfaces)
         && commit_tells_shown(surfaces, CHILD, 19, &[18, 18])
@@ -320,7 +325,8 @@ fn links_are_refused(rt: HostRuntime) {
     assert!(rt; refuses_links(&mut surfaces));
 }
 
-// What a commit of the window and of its child tells, the window's first: None where there was no memory for it.
+// What a commit of the window and of its child tells, the window's first: None where there was no
+// memory for it.
 fn committed<A: Allocator + Copy>(surfaces: &mut Surfaces<A>, surface: SurfaceNo) -> Option<usize> {
     match surfaces.commit(surface) {
         Ok(told) => Some(told.changes.len()),

@@ -49,7 +49,8 @@ fn chained<A: Allocator>(trees: &mut Trees<A>, count: usize) -> bool {
     true
 }
 
-// wl_subcompositor.get_subsurface: a chain down to the greatest depth, and nothing deeper, neither the surface nor one that stands below it.
+// wl_subcompositor.get_subsurface: a chain down to the greatest depth, and nothing deeper, neither
+// the surface nor one that stands below it.
 #[test]
 fn a_chain_has_a_greatest_depth(rt: HostRuntime) {
     let mut trees = Trees::new(rt.alloc());

@@ -9,7 +9,8 @@ use wl_geom::Region;
 use wl_paint::{Painted, Windows};
 use wl_store::{Layout, Stores};
 
-/// Two windows of one store, if both layouts end within it: one at (0, 0), and one at (1, 0) above it.
+/// Two windows of one store, if both layouts end within it: one at (0, 0), and one at (1, 0) above
+/// it.
 #[derive(Drop)]
 pub struct Two<'a, A: Allocator> {
     pub stores: &'a Stores<A>,

@@ -66,8 +66,8 @@ fn has<A: Allocator + Copy>(surfaces: &Surfaces<A>, alloc: A, wanted: &[TreeWind
     add_windows(surfaces, 0, 10, 20, &mut windows).is_ok() && windows.as_slice() == wanted
 }
 
-// wl_subsurface: each surface stands at its parent's corner, moved by its position and its own offset, from bottom to top; nothing is shown
-// of a surface without a buffer, nor of its children.
+// wl_subsurface: each surface stands at its parent's corner, moved by its position and its own
+// offset, from bottom to top. A surface without a buffer isn't shown, nor are its children.
 #[test]
 fn a_tree_is_seen_in_its_order(rt: HostRuntime) {
     let mut surfaces = Surfaces::new(rt.alloc());
@@ -95,7 +95,8 @@ fn a_tree_is_seen_in_its_order(rt: HostRuntime) {
     assert!(rt; surfaces.commit(0).is_ok() && has(&surfaces, rt.alloc(), &[]));
 }
 
-// Attaches a buffer of 5 by 8 pixels to the surface 0, so many pixels to the right, turns it by 90 degrees and commits.
+// Attaches a buffer of 5 by 8 pixels to the surface 0, so many pixels to the right, turns it by 90
+// degrees and commits.
 fn shows_turned<A: Allocator + Copy>(surfaces: &mut Surfaces<A>, right: i32) -> bool {
     if let Ok(layout) = layout(160, 0, 5, 8, 20, 1) {
         let buffer = Attached {
@@ -109,7 +110,8 @@ fn shows_turned<A: Allocator + Copy>(surfaces: &mut Surfaces<A>, right: i32) -> 
     surfaces.set_transform(0, 1) == Ok(()) && surfaces.commit(0).is_ok()
 }
 
-// wl_surface.attach and set_buffer_transform: a window is as large as its turned buffer, and stands no farther than 16,777,216.
+// wl_surface.attach and set_buffer_transform: a window is as large as its turned buffer, and stands
+// no farther than 16,777,216.
 #[test]
 fn a_window_is_turned_and_moved(rt: HostRuntime) {
     let mut surfaces = Surfaces::new(rt.alloc());

@@ -188,7 +188,8 @@ impl World {
         }
     }
 
-    /// A surface without an xdg_surface goes, or becomes a toplevel, a popup or a subsurface, or is one.
+    /// A surface without an xdg_surface goes, or becomes a toplevel, a popup or a subsurface, or is
+    /// one.
     fn ask_bare(&mut self, number: usize, surface: Surface, buffer: usize) {
         let slot = slot_of(number);
         match surface.role {
@@ -309,7 +310,8 @@ impl World {
         self.ask(Request::Frame(slot_of(number), callback));
     }
 
-    /// Whether a client asks for what there is since a version: one whose objects are older does it at times.
+    /// Whether a client asks for what there is since a version: one whose objects are older does it
+    /// at times.
     pub(crate) fn may_ask(&mut self, version: u32, since: u32) -> bool {
         since <= version || self.one_in(15)
     }
@@ -323,7 +325,8 @@ impl World {
         }
     }
 
-    /// A scale that divides the sides of the buffer; one that doesn't, or isn't above 0, now and then.
+    /// A scale that divides the sides of the buffer; one that doesn't, or isn't above 0, now and
+    /// then.
     fn choose_scale(&mut self, number: usize, surface: Surface, buffer: usize) -> i32 {
         let Client { compositor, .. } = self.client(client_of(number));
         let scale = if self.one_in(4) && self.may_ask(compositor, 3) {
@@ -341,7 +344,8 @@ impl World {
         }
     }
 
-    /// By how much a surface moves: a new one is brought to the output, and a mapped one now and then.
+    /// By how much a surface moves: a new one is brought to the output, and a mapped one now and
+    /// then.
     fn choose_move(&mut self, number: usize, surface: Surface) -> (i32, i32) {
         if surface.role != Role::Toplevel {
             return self.choose_step();

@@ -9,7 +9,8 @@ use crate::tally::Deed;
 const MANY: u32 = 1024;
 
 impl World {
-    /// Says what changed: all, or each row's part. What has another size, scale, corner or transform needs no damage; a client that lies tells of none.
+    /// Says what changed: all, or each row's part. What has another size, scale, corner or
+    /// transform needs no damage; a client that lies tells of none.
     pub(crate) fn ask_damage(
         &mut self,
         number: usize,
@@ -24,7 +25,8 @@ impl World {
         if self.client(client).lies {
             return;
         }
-        // what is held may be shown at last with the sides that are shown now, and a popup's offset may undo its window geometry's
+        // what is held may be shown at last with the sides that are shown now, and a popup's offset
+        // may undo its window geometry's
         let is_new = old.is_none() && surface.role != Role::Toplevel;
         let old = old.unwrap_or(new);
         if is_new || self.one_in(4) {
@@ -50,7 +52,8 @@ impl World {
         }
     }
 
-    /// Damages the points of a surface from one to another. In coordinates of the buffer this takes a pixel of each of them.
+    /// Damages the points of a surface from one to another. In coordinates of the buffer this takes
+    /// a pixel of each of them.
     fn ask_damage_of(&mut self, number: usize, content: Content, from: (i32, i32), to: (i32, i32)) {
         let slot = slot_of(number);
         let Client { compositor, .. } = self.client(client_of(number));

@@ -25,7 +25,8 @@ pub(crate) enum Stage {
     Mapped,
 }
 
-/// What a surface shows: a buffer, how it is turned, and how many pixels of it make a point, to the right and down.
+/// What a surface shows: a buffer, how it is turned, and how many pixels of it make a point, to the
+/// right and down.
 #[derive(Clone, Copy)]
 pub(crate) struct Content {
     pub buffer: usize,
@@ -49,8 +50,9 @@ pub(crate) struct Buffer {
     pub made: u32,
 }
 
-/// What a commit gives a surface: its buffer, how far it was moved by attaches, how it is turned, its scale, which part of it takes input (all, where there
-/// is none), and how many moves of all subsurfaces count of which it is the parent.
+/// What a commit gives a surface: its buffer, how far attaches moved it, how it is turned, and its
+/// scale. `input` is the part that takes input, or all if there is none. `moves` says how many
+/// moves of subsurfaces count whose parent it is.
 #[derive(Clone, Copy)]
 pub(crate) struct State {
     pub buffer: Option<Buffer>,
@@ -87,7 +89,8 @@ pub(crate) struct Surface {
     pub birth: u32,
     pub stage: Stage,
     pub role: Role,
-    /// The serial of its latest configure, and the one up to which they were acknowledged or forgotten.
+    /// The serial of its latest configure, and the one up to which they were acknowledged or
+    /// forgotten.
     pub serial: u32,
     pub acknowledged: u32,
     /// What was attached since the last commit.
@@ -96,15 +99,17 @@ pub(crate) struct Surface {
     pub turned: u32,
     pub scaled: i32,
     pub input: Option<Area>,
-    /// How often something was damaged since the last commit, in coordinates of the surface and of the buffer.
+    /// How often something was damaged since the last commit, in coordinates of the surface and of
+    /// the buffer.
     pub damages: [u32; 2],
     /// What was committed last, and what is shown.
     pub committed: State,
     pub current: State,
-    /// The number of its toplevel or popup, in the order in which all were made. 0 where it has none.
+    /// The number of its toplevel or popup, in the order in which all were made. 0 where it has
+    /// none.
     pub object: u32,
     pub popup: Option<Popup>,
-    /// The corner of its window geometry, and that which counts with the next commit.
+    /// The corner of its window geometry, and the one that counts with the next commit.
     pub corner: (i32, i32),
     pub corner_asked: Option<(i32, i32)>,
     /// How many frame callbacks wait for a commit, to be applied, and for a frame.
@@ -113,7 +118,8 @@ pub(crate) struct Surface {
     pub due: usize,
     /// There is a wl_subsurface that was made of a surface of this number.
     pub has_object: bool,
-    /// The surface that it is a subsurface of, a number of that link that no other has, and whether its commits aren't held.
+    /// The surface that it is a subsurface of, a number of that link that no other has, and whether
+    /// its commits aren't held.
     pub parent: Option<usize>,
     pub link: u32,
     pub desynchronised: bool,
@@ -264,7 +270,8 @@ pub(crate) struct Window {
     pub y: i32,
 }
 
-/// All clients, what they asked for, the steps by which they did, and the frames that they are to see.
+/// All clients, what they asked for, the steps by which they did, and the frames that they are to
+/// see.
 #[derive(Drop)]
 pub(crate) struct World {
     pub random: u64,
@@ -566,8 +573,8 @@ impl World {
         }
     }
 
-    /// Commits what is pending, which is applied unless it is held, and maps or unmaps the toplevel or popup. A buffer that its points don't divide
-    /// is a mistake.
+    /// Commits what is pending, which is applied unless it is held, and maps or unmaps the toplevel
+    /// or popup. A buffer that its points don't divide is a mistake.
     pub(crate) fn commit(&mut self, client: usize, surface: usize) {
         let committed = committed(self.surface(surface), self.moves.len());
         if !is_whole(committed.committed) {
@@ -730,7 +737,8 @@ fn is_whole(state: State) -> bool {
     }
 }
 
-/// A surface after a commit. What was attached last counts, and of its subsurfaces all that was asked so far.
+/// A surface after a commit. What was attached last counts, and of its subsurfaces all that was
+/// asked so far.
 fn committed(surface: Surface, moves: usize) -> Surface {
     let old = surface.committed;
     let (buffer, x, y) = match surface.attached {

@@ -6,7 +6,8 @@ use crate::requests::{BUFFERS, STORE, Shape, shape_of};
 /// Blue, green, red and alpha.
 pub(crate) type Color = [u8; 4];
 
-/// The sides of a surface with a content: those of the buffer, divided by the scale, which odd transforms swap.
+/// The sides of a surface with a content: those of the buffer, divided by the scale, which odd
+/// transforms swap.
 pub(crate) fn sides_of(content: Content) -> (i32, i32) {
     let shape = shape_of(content.buffer);
     let width = shape.width.checked_div(content.scale).unwrap_or(0);
@@ -198,8 +199,8 @@ impl World {
         self.fill(client, at, count, color);
     }
 
-    /// A buffer for a surface: the one that it shows, or one that is drawn anew. A client that keeps its promises draws only
-    /// into buffers that aren't shown.
+    /// A buffer for a surface: the one that it shows, or one that is drawn anew. A client that
+    /// keeps its promises draws only into buffers that aren't shown.
     pub(crate) fn choose_buffer(&mut self, client: usize, surface: Surface) -> usize {
         let is_kept = surface.stage == Stage::Mapped || surface.role == Role::Subsurface;
         if let Some(shown) = surface.committed.buffer

@@ -4,7 +4,8 @@ use crate::desktop::{Role, SURFACES, Stage, Surface, World, client_of, number_of
 use crate::requests::Request;
 
 impl World {
-    /// A surface becomes a subsurface of another one of its client that doesn't hang below it, and shows something with the next commit of that.
+    /// A surface becomes a subsurface of another one of its client that doesn't hang below it, and
+    /// shows something with the next commit of that.
     pub(crate) fn join(&mut self, number: usize, surface: Surface, buffer: usize) {
         let slot = slot_of(number);
         if surface.has_object {
@@ -77,7 +78,8 @@ impl World {
         }
     }
 
-    /// The parent commits, unless it may not: an xdg_surface without a role object whose surface has a buffer.
+    /// The parent commits, unless it may not: an xdg_surface without a role object whose surface
+    /// has a buffer.
     fn ask_parent_to_commit(&mut self, surface: Surface) {
         if let Some(parent) = surface.parent
             && self.surface(parent).stage != Stage::Roleless

@@ -1,5 +1,8 @@
-//! Tests of the session by chance: random lists of steps of clients, the pointer and the server, of which a viewer that copies only what each frame painted
-//! sees what a slow painter paints, by a second reading of what clients asked for.
+//! Tests of the session by chance: random lists of steps of clients, the pointer and the server. A
+//! viewer copies only what each frame painted. It has to see what a slow painter paints, by a
+//! second reading of what clients asked for.
+//!
+//! Begin with `plays`, then `desktop`, which is that reading.
 #![tactic(auto)]
 
 #[cfg(test)]

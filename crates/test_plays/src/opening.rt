@@ -6,7 +6,8 @@ use crate::desktop::{
 use crate::requests::{Area, Request, Rule, Spot};
 
 impl World {
-    /// A surface without a role gets an xdg_surface, and a popup on one of its client's toplevels or popups. False where there is none.
+    /// A surface without a role gets an xdg_surface, and a popup on one of its client's toplevels
+    /// or popups. False where there is none.
     pub(crate) fn open(&mut self, number: usize) -> bool {
         match self.choose_host(number) {
             Some(host) => {
@@ -18,7 +19,8 @@ impl World {
         }
     }
 
-    /// A popup on this one of its client's toplevels or popups, which grabs by this serial, if there is one.
+    /// A popup on this one of its client's toplevels or popups, which grabs by this serial, if
+    /// there is one.
     fn open_on(&mut self, number: usize, host: usize, serial: Option<u32>) {
         let slot = slot_of(number);
         self.ask(Request::MakeXdgSurface(slot));
@@ -26,7 +28,8 @@ impl World {
         self.ask(Request::Commit(slot));
     }
 
-    /// A client of which all was sent opens a popup on this surface's toplevel or popup, over which a button was pressed with this serial.
+    /// A client of which all was sent opens a popup on this surface's toplevel or popup, over which
+    /// a button was pressed with this serial.
     pub(crate) fn open_menu(&mut self, host: usize, serial: u32) {
         let client = client_of(host);
         if let Some(number) = self.free_surface(client) {
@@ -88,7 +91,8 @@ impl World {
         found
     }
 
-    /// Makes a positioner, by which a popup is placed, and lets it grab by this serial, if there is one.
+    /// Makes a positioner, by which a popup is placed, and lets it grab by this serial, if there is
+    /// one.
     fn ask_popup(&mut self, number: usize, host: usize, serial: Option<u32>) {
         let spot = self.ask_positioner(number);
         self.ask(Request::MakePopup(slot_of(number), host, spot));
@@ -136,7 +140,8 @@ impl World {
         self.ask(Request::Positioner(rule));
     }
 
-    /// Places a popup anew, or asks for that by a positioner without a size or a rectangle, now and then.
+    /// Places a popup anew, or asks for that by a positioner without a size or a rectangle, now and
+    /// then.
     fn ask_reposition(&mut self, number: usize) {
         let slot = slot_of(number);
         let token = u32::try_from(self.below(1000)).unwrap_or(0);
@@ -155,7 +160,8 @@ impl World {
         self.ask(Request::Positioner(Rule::Destroy));
     }
 
-    /// A new popup, or one that doesn't wait for more than some acknowledgements, is placed anew now and then, once or twice. Whether it is.
+    /// A new popup, or one that doesn't wait for more than some acknowledgements, is placed anew
+    /// now and then, once or twice. Whether it is.
     pub(crate) fn ask_reposition_at_times(&mut self, number: usize) -> bool {
         let Client { shell, .. } = self.client(client_of(number));
         let (left, _) = self.unacknowledged(number, u32::MAX);
@@ -169,7 +175,8 @@ impl World {
         asks
     }
 
-    /// One of a client's surfaces, more often one with a popup that wasn't dismissed, if there is one.
+    /// One of a client's surfaces, more often one with a popup that wasn't dismissed, if there is
+    /// one.
     pub(crate) fn choose_slot(&mut self, client: usize) -> usize {
         let start = self.below(SURFACES);
         if self.one_in(2) {
@@ -201,7 +208,8 @@ impl World {
         }
     }
 
-    /// The serial of a configure of a surface's toplevel or popup that wasn't acknowledged, mostly of the last. None where all were.
+    /// The serial of a configure of a surface's toplevel or popup that wasn't acknowledged, mostly
+    /// of the last. None where all were.
     fn choose_configure(&mut self, number: usize) -> Option<u32> {
         let now = self.surface(number);
         let is_first = self.one_in(3);

@@ -1,4 +1,5 @@
-//! Where popups are placed anew, by the rules of the protocol (xdg-shell.xml, xdg_popup.reposition and xdg_surface.ack_configure).
+//! Where popups are placed anew, by the rules of the protocol (xdg-shell.xml, xdg_popup.reposition
+//! and xdg_surface.ack_configure).
 
 use crate::desktop::{SURFACES, Stage, Surface, World, slot_of};
 use crate::painter::{HEIGHT, WIDTH};
@@ -7,7 +8,8 @@ use crate::requests::{POPUP, Spot, popup_id, toplevel_id, xdg_surface_id};
 use crate::tally::Deed;
 use crate::telling::{Event, INVALID_POSITIONER};
 
-/// A configure of a toplevel or popup, by its number, and where the popup is to stand after it was acknowledged, if it was placed anew.
+/// A configure of a toplevel or popup, by its number, and where the popup is to stand after it was
+/// acknowledged, if it was placed anew.
 #[derive(Clone, Copy)]
 pub(crate) struct Configure {
     pub object: u32,
@@ -47,8 +49,8 @@ impl World {
         }
     }
 
-    /// A popup has another positioner, and is placed by it once the configure is acknowledged that tells of it. Before the first commit, and
-    /// where it was dismissed, nothing is told.
+    /// A popup has another positioner, and is placed by it once the configure is acknowledged that
+    /// tells of it. Before the first commit, and where it was dismissed, nothing is told.
     pub(crate) fn reposition(
         &mut self,
         client: usize,
@@ -96,7 +98,8 @@ impl World {
         (x, y)
     }
 
-    /// The corner of the window geometry of a toplevel or popup on the output. A toplevel that isn't mapped stands at the first point.
+    /// The corner of the window geometry of a toplevel or popup on the output. A toplevel that
+    /// isn't mapped stands at the first point.
     fn geometry_corner(&self, surface: usize) -> (i32, i32) {
         let mut at = surface;
         let (mut x, mut y) = self.surface(surface).corner;
@@ -132,8 +135,8 @@ impl World {
         (0, 0)
     }
 
-    /// The configures of a surface's toplevel or popup that weren't acknowledged, up to a serial: how many there are that place a popup anew, and where the
-    /// last of them does.
+    /// The configures of a surface's toplevel or popup that weren't acknowledged, up to a serial.
+    /// The answer is how many of them place a popup anew, and where the last does.
     pub(crate) fn unacknowledged(&self, surface: usize, last: u32) -> (usize, Option<(i32, i32)>) {
         let now = self.surface(surface);
         let (mut count, mut place) = (0usize, None);
@@ -147,7 +150,8 @@ impl World {
         (count, place)
     }
 
-    /// A serial that waits makes the surface ready to be mapped. The place of the last configure up to it waits for the next commit.
+    /// A serial that waits makes the surface ready to be mapped. The place of the last configure up
+    /// to it waits for the next commit.
     pub(crate) fn acknowledge(&mut self, surface: usize, serial: u32) {
         if self.surface(surface).stage == Stage::Waiting {
             self.reach(surface, Stage::Ready);
@@ -227,7 +231,8 @@ fn single(object: u32, opcode: u32, word: u32) -> Event {
     }
 }
 
-/// xdg_popup.configure, by the place that is in force if there is no other. xdg_toplevel.configure says that it has no sides and is activated: an array of a word.
+/// xdg_popup.configure, by the place that is in force if there is no other. xdg_toplevel.configure
+/// says that it has no sides and is activated: an array of a word.
 fn role_configure(slot: usize, popup: Option<Popup>, place: Option<(i32, i32)>) -> Event {
     let (object, words) = match popup {
         Some(popup) => {
@@ -246,7 +251,8 @@ fn role_configure(slot: usize, popup: Option<Popup>, place: Option<(i32, i32)>) 
     }
 }
 
-/// The place beside a corner that is nearest to this one, and from which a popup lies within the output.
+/// The place beside a corner that is nearest to this one, and from which a popup lies within the
+/// output.
 fn slid(place: i32, corner: i32, side: i32) -> i32 {
     let first = 0i32.wrapping_sub(corner);
     let last = side.wrapping_sub(POPUP).wrapping_sub(corner);

@@ -1,5 +1,5 @@
-//! At each tick a viewer that copies only what was painted holds every window painted from nothing in stacking order,
-//! but where a window of a client that broke a promise covers it.
+//! At each tick a viewer copies only what was painted. It holds every window painted from nothing
+//! in stacking order, but where a window of a client that broke a promise covers it.
 
 use crate::desktop::{Life, SURFACES, World, new_world, number_of};
 use crate::tally::{Deed, NOTHING, Tally, add, first_missing};
@@ -125,7 +125,8 @@ fn played(alloc: Global, kind: Kind, seed: u64) -> Option<Outcome> {
     }
 }
 
-/// Plays sessions up to the first in which something was wrong, and adds up what happened. That one, and all with it.
+/// Plays sessions up to the first in which something was wrong, and adds up what happened. That
+/// one, and all with it.
 fn first_wrong(alloc: Global, kind: Kind, all: &mut Outcome) -> Option<u64> {
     for seed in 1..PLAYS.saturating_add(1) {
         let Some(one) = played(alloc, kind, seed) else {
@@ -203,12 +204,14 @@ const PAINTED: u32 = 287;
 
 const IDLE: u32 = 510;
 
-/// How many points have to be seen that aren't as painted, inside the windows of a client that lies, and where such a client goes soon.
+/// How many points have to be seen that aren't as painted, inside the windows of a client that
+/// lies, and where such a client goes soon.
 const SPOILED: u32 = 30228;
 
 const SPOILED_ONCE: u32 = 1663;
 
-/// Whether enough frames with and without damage were seen, and enough points that a client that lies spoiled.
+/// Whether enough frames with and without damage were seen, and enough points that a client that
+/// lies spoiled.
 fn has_frames(seen: Seen, spoiled: u32) -> bool {
     seen.painted >= PAINTED && seen.idle >= IDLE && seen.spoiled >= spoiled
 }

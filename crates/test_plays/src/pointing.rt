@@ -1,5 +1,6 @@
-//! The pointer, by the rules of the protocol: which surface has its focus, what a press raises, what is moved with it, and what clients are told
-//! of it (wayland.xml, wl_pointer, and xdg-shell.xml, xdg_toplevel.move).
+//! The pointer, by the rules of the protocol: which surface has its focus, what a press raises,
+//! what is moved with it, and what clients are told. See wayland.xml, wl_pointer, and
+//! xdg-shell.xml, xdg_toplevel.move.
 
 use crate::desktop::{Client, Planned, SURFACES, Stage, Window, World, client_of, slot_of};
 use crate::drawing::sides_of;
@@ -32,7 +33,8 @@ pub(crate) const AWAY: Pointer = Pointer {
 };
 
 impl World {
-    /// The pointer moves, or a button of it is pressed or released, or a client asks that its toplevel is moved.
+    /// The pointer moves, or a button of it is pressed or released, or a client asks that its
+    /// toplevel is moved.
     pub(crate) fn use_pointer(&mut self) {
         let button = self.below(2);
         match self.below(8) {
@@ -47,7 +49,8 @@ impl World {
         }
     }
 
-    /// The client over whose toplevel a button was pressed asks that it is moved, or opens a popup, or what it asked before is sent.
+    /// The client over whose toplevel a button was pressed asks that it is moved, or opens a popup,
+    /// or what it asked before is sent.
     fn use_press(&mut self) {
         if let (Some(focus), Some(serial)) = (self.pointer.focus, self.pointer.hold) {
             let client = client_of(focus);
@@ -69,7 +72,8 @@ impl World {
         self.send(client, self.client(client).to);
     }
 
-    /// The pointer goes to the point of the output that is nearest to this. What it moves goes along.
+    /// The pointer goes to the point of the output that is nearest to this. What it moves goes
+    /// along.
     fn go_to(&mut self, x: i32, y: i32) {
         let to = (x.max(0).min(WIDTH - 1), y.max(0).min(HEIGHT - 1));
         let was = self.pointer;
@@ -95,7 +99,8 @@ impl World {
         }
     }
 
-    /// A button that is up is pressed: the toplevel under the pointer comes to the top, popups are dismissed, and the focus is told of it.
+    /// A button that is up is pressed: the toplevel under the pointer comes to the top, popups are
+    /// dismissed, and the focus is told of it.
     fn press(&mut self, button: usize) {
         if !self.is_down(button) {
             if self.pointer.buttons == [false; 2] {
@@ -262,7 +267,7 @@ impl World {
         None
     }
 
-    /// What is under the pointer has the focus, but while a button is down that which had it keeps it.
+    /// What is under the pointer has the focus. While a button is down, what had it keeps it.
     pub(crate) fn settle(&mut self) {
         let Some(windows) = self.windows() else {
             self.failed = true;
@@ -292,7 +297,8 @@ impl World {
         self.pointer.focus = focus;
     }
 
-    /// A toplevel is moved with the pointer while a button is held that was pressed over it or what hangs below it.
+    /// A toplevel is moved with the pointer while a button is held that was pressed over it or what
+    /// hangs below it.
     pub(crate) fn begin_moving(&mut self, toplevel: usize, serial: u32) {
         if let Some(focus) = self.pointer.focus
             && self.pointer.hold == Some(serial)

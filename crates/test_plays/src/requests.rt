@@ -89,7 +89,8 @@ pub(crate) struct Attach {
     pub y: i32,
 }
 
-/// Where a positioner places a popup: its offset from the first point of the parent's window geometry, and whether it slides into the output.
+/// Where a positioner places a popup: its offset from the first point of the parent's window
+/// geometry, and whether it slides into the output.
 #[derive(Clone, Copy)]
 pub(crate) struct Spot {
     pub x: i32,
@@ -97,10 +98,12 @@ pub(crate) struct Spot {
     pub slides: bool,
 }
 
-/// A request of a client. Its surfaces are 0 to 3, each with an xdg_surface and a toplevel or popup of its own, or with a wl_subsurface.
+/// A request of a client. Its surfaces are 0 to 3, each with an xdg_surface and a toplevel or popup
+/// of its own, or with a wl_subsurface.
 #[derive(Clone, Copy)]
 pub(crate) enum Request {
-    /// One of those that each client begins with, and the binds of wl_compositor and xdg_wm_base at these versions.
+    /// One of those that each client begins with, and the binds of wl_compositor and xdg_wm_base at
+    /// these versions.
     Start(usize),
     BindCompositor(u32),
     BindShell(u32),
@@ -143,11 +146,13 @@ pub(crate) enum Request {
     DestroySubsurface(usize),
     /// One of the positioner by which the next popup is placed, or one is placed anew.
     Positioner(Rule),
-    /// The one surface has a popup on the other's toplevel or popup, which the positioner places here.
+    /// The one surface has a popup on the other's toplevel or popup, which the positioner places
+    /// here.
     MakePopup(usize, usize, Spot),
     /// The popup grabs by this serial.
     Grab(usize, u32),
-    /// The popup is to be placed here by the positioner, with this token. None where the positioner is incomplete.
+    /// The popup is to be placed here by the positioner, with this token. None where the positioner
+    /// is incomplete.
     Reposition(usize, u32, Option<Spot>),
     DestroyPopup(usize),
     SetGeometry(usize, Area),
@@ -157,7 +162,8 @@ pub(crate) enum Request {
     Mistake,
 }
 
-/// A request of a positioner. It places a popup to the right of its offset from the first point of the parent's window geometry, and down from it.
+/// A request of a positioner. It places a popup to the right of its offset from the first point of
+/// the parent's window geometry, and down from it.
 #[derive(Clone, Copy)]
 pub(crate) enum Rule {
     Make,
@@ -183,7 +189,8 @@ struct Words {
     words: [u32; 6],
 }
 
-/// The registry 2, the wl_shm 4, the wl_subcompositor 6, the wl_seat 7 and the pool 9. Beside them there are the wl_compositor 3 and the xdg_wm_base 5.
+/// The registry 2, the wl_shm 4, the wl_subcompositor 6, the wl_seat 7 and the pool 9. Beside them
+/// there are the wl_compositor 3 and the xdg_wm_base 5.
 const START: &[(u32, u16, &[Arg])] = &[
     (1, 1, &[Arg::NewId(2)]),
     (

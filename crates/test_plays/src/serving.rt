@@ -1,4 +1,5 @@
-//! What a request of a client does, by the rules of the protocol, and how many bytes the client is told.
+//! What a request of a client does, by the rules of the protocol, and how many bytes the client is
+//! told.
 
 use crate::desktop::{
     ABSENT, Client, Life, Role, SURFACES, Stage, State, Surface, World, number_of,
@@ -8,7 +9,8 @@ use crate::tally::Deed;
 use crate::telling::{DELETED, INVALID_METHOD, INVALID_OBJECT, RELEASED};
 
 impl World {
-    /// A request of a client is taken, unless the client ended. It is told of each wl_buffer that is there and isn't busy any more.
+    /// A request of a client is taken, unless the client ended. It is told of each wl_buffer that
+    /// is there and isn't busy any more.
     pub(crate) fn take(&mut self, client: usize, request: Request) {
         if self.client(client).life != Life::Alive {
             return;
@@ -120,7 +122,8 @@ impl World {
         self.set_surface(surface, asked);
     }
 
-    /// Which buffers of a client are shown, or will be by a commit that is held, of those whose wl_buffers are there.
+    /// Which buffers of a client are shown, or will be by a commit that is held, of those whose
+    /// wl_buffers are there.
     fn busy(&self, client: usize) -> [bool; 5] {
         let mut busy = [false; 5];
         for slot in 0..SURFACES {

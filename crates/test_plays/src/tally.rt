@@ -23,7 +23,8 @@ pub(crate) enum Deed {
     Sent,
     /// A buffer was released.
     Release,
-    /// A surface became a subsurface, such a link ended, and one was desynchronised or synchronised.
+    /// A surface became a subsurface, such a link ended, and one was desynchronised or
+    /// synchronised.
     Link,
     Unlink,
     Desync,
@@ -31,7 +32,8 @@ pub(crate) enum Deed {
     /// A commit was held, and what was held was applied since a mode changed.
     Hold,
     Unhold,
-    /// A subsurface was given a position, was placed above or below another, and has a window in a frame.
+    /// A subsurface was given a position, was placed above or below another, and has a window in a
+    /// frame.
     Position,
     Above,
     Below,
@@ -46,7 +48,8 @@ pub(crate) enum Deed {
     /// A press raised a toplevel above others, and one went along with the pointer.
     Raise,
     Drag,
-    /// A popup was made, mapped, unmapped, destroyed, and has a window in a frame, of a parent whose window geometry begins elsewhere.
+    /// A popup was made, mapped, unmapped, destroyed, and has a window in a frame, of a parent
+    /// whose window geometry begins elsewhere.
     Popup,
     PopupMap,
     PopupUnmap,
@@ -61,10 +64,12 @@ pub(crate) enum Deed {
     /// A surface got a scale, and a window with one above 1 is in a frame.
     Scale,
     Scaled,
-    /// What a commit changes was damaged in both kinds of coordinates, and by more than are read one by one.
+    /// What a commit changes was damaged in both kinds of coordinates, and by more than are read
+    /// one by one.
     BothDamages,
     MuchDamage,
-    /// A scale wasn't above 0, a scale didn't divide a buffer's sides, and a request was newer than its object.
+    /// A scale wasn't above 0, a scale didn't divide a buffer's sides, and a request was newer than
+    /// its object.
     BadScale,
     BadSize,
     TooNew,
@@ -72,7 +77,8 @@ pub(crate) enum Deed {
     Reposition,
     RepositionOfFresh,
     RepositionOfDismissed,
-    /// Several such were acknowledged at once, one was put in force while the popup is mapped, and before that, and some were forgotten.
+    /// Several such were acknowledged at once, one was put in force while the popup is mapped, and
+    /// before that, and some were forgotten.
     Together,
     InForce,
     InForceBefore,

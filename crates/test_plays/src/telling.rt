@@ -51,7 +51,8 @@ pub(crate) fn invalid_size(slot: usize) -> Mistake {
     }
 }
 
-/// An event of at most four words after its header: the object that it is of, its opcode, and how many of the words it has.
+/// An event of at most four words after its header: the object that it is of, its opcode, and how
+/// many of the words it has.
 #[derive(Clone, Copy)]
 pub(crate) struct Event {
     pub object: u32,
@@ -60,7 +61,8 @@ pub(crate) struct Event {
     pub words: [u32; 4],
 }
 
-/// An event that a client is told in a step: where it begins in what waits for the client afterwards.
+/// An event that a client is told in a step: where it begins in what waits for the client
+/// afterwards.
 #[derive(Clone, Copy)]
 pub(crate) struct Note {
     pub step: usize,
@@ -74,8 +76,8 @@ pub(crate) fn size_of(event: Event) -> usize {
     event.count.saturating_mul(4).saturating_add(8)
 }
 
-/// How many bytes a client is told by one event: that an id is free again, that a frame callback is done, that a buffer is released, and that a popup is
-/// dismissed.
+/// How many bytes one event has. An id is free again, a frame callback is done, a buffer is
+/// released, or a popup is dismissed.
 pub(crate) const DELETED: usize = 12;
 
 pub(crate) const CALLED_BACK: usize = 12;
@@ -84,7 +86,8 @@ pub(crate) const RELEASED: usize = 8;
 
 pub(crate) const DISMISSED: usize = 8;
 
-/// That its surface is entered or left, that the pointer moved over it, and that a button was pressed or released.
+/// That its surface is entered or left, that the pointer moved over it, and that a button was
+/// pressed or released.
 pub(crate) const ENTERED: usize = 24;
 
 pub(crate) const LEFT: usize = 16;
@@ -106,7 +109,8 @@ pub(crate) const REGISTRY: usize = 196;
 pub(crate) const BEGUN: usize = 232;
 
 impl World {
-    /// A client that lives is told an event of so many bytes. Where it has no room for that, it is to end, and is told nothing more.
+    /// A client that lives is told an event of so many bytes. Where it has no room for that, it is
+    /// to end, and is told nothing more.
     pub(crate) fn tell(&mut self, client: usize, size: usize) {
         let told = self.client(client);
         if told.life != Life::Alive || told.struck {
@@ -201,7 +205,8 @@ impl World {
         self.set_surface(number, Surface { due: 0, ..surface });
     }
 
-    /// A client is told of the error of its message, and ends by that, or since it has no room for it.
+    /// A client is told of the error of its message, and ends by that, or since it has no room for
+    /// it.
     pub(crate) fn refuse(&mut self, client: usize, mistake: Mistake) {
         self.tell(client, mistake.size);
         if self.client(client).struck {

@@ -30,13 +30,16 @@ pub(crate) struct Seen {
     pub painted: u32,
     /// Frames in which nothing was.
     pub idle: u32,
-    /// Whether the runs of all frames, the answers to all steps and the number of frames are as they have to be.
+    /// Whether the runs of all frames, the answers to all steps and the number of frames are as
+    /// they have to be.
     pub proper: bool,
-    /// The first step that was answered otherwise, or after which it isn't as long what waits for the clients.
+    /// The first step that was answered otherwise, or after which it isn't as long what waits for
+    /// the clients.
     pub fault: Option<Fault>,
 }
 
-/// A step by its place, how many bytes wait for each client after it, how many have to, and whether those events are there of which it is known what they say.
+/// A step by its place. `waiting` has how many bytes wait for each client after it, and `wanted`
+/// how many have to. `told` says whether the events are there whose bytes are known.
 #[derive(Clone, Copy, Debug)]
 pub(crate) struct Fault {
     pub step: usize,
@@ -237,7 +240,8 @@ fn copy_color(image: &mut [u8], at: usize) {
     }
 }
 
-/// Whether a tick of its own call answers the same frame, and as many points as the runs have are damaged.
+/// Whether a tick of its own call answers the same frame, and as many points as the runs have are
+/// damaged.
 fn is_same_tick(session: &mut Session<Global>, time: u32, shot: &Shot<Global>) -> bool {
     let frame = session.tick(time);
     frame.time == shot.time
@@ -271,7 +275,8 @@ fn has_event(bytes: &[u8], at: usize, event: Event) -> bool {
     holds
 }
 
-/// The place past the events of a step, the first of which is this one. None where clients weren't told all of them.
+/// The place past the events of a step, the first of which is this one. None where clients weren't
+/// told all of them.
 fn past_told(
     session: &Session<Global>,
     notes: &[Note],

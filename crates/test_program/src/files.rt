@@ -7,7 +7,8 @@ use test_support::Refusing;
 use wl_program::{Folder, Status};
 use wl_replay::{SideFault, SideFiles};
 
-/// How the program ends that shows one frame, with the image that it wrote. None where it gave another report.
+/// How the program ends that shows one frame, with the image that it wrote. None where it gave
+/// another report.
 fn image(rt: &HostRuntime) -> Option<(Status, Vec<u8>)> {
     let path = path_in(rt, folder(rt)?.as_str(), file_name(rt, "ppm")?.as_str())?;
     let text = joined(
@@ -91,8 +92,8 @@ fn pool_report(rt: &HostRuntime, text: &str) -> Option<Vec<u8>> {
     Some(report)
 }
 
-/// How the program ends that plays the pool and a line more. None where it said something else of a fault, or reported more than of the pool
-/// alone.
+/// How the program ends that plays the pool and a line more. None where it said something else of a
+/// fault, or reported more than of the pool alone.
 fn plays_line(rt: &HostRuntime, folder: &str, line: &str, fault: &str) -> Option<Status> {
     let text = joined(rt.alloc(), "wlframe replay --size 2x1 --dir ", folder)?;
     let report = pool_report(rt, text.as_str())?;

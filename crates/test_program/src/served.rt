@@ -15,9 +15,10 @@ const SYNC: &[u8] = b"\x01\0\0\0\0\0\x0c\0\x02\0\0\0";
 /// wl_callback.done of the callback 2, and wl_display.delete_id of it.
 const ANSWER: &[u8] = b"\x02\0\0\0\0\0\x0c\0\0\0\0\0\x01\0\0\0\x01\0\x0c\0\x02\0\0\0";
 
-/// The globals wl_compositor, wl_shm and xdg_wm_base are bound as 3, 4 and 5; a toplevel of the surface 6 gets its first commit and acknowledges the
-/// configure of serial 1; a buffer of 2 by 1 pixels of a pool of 8 bytes is attached and damaged whole, a callback 11 is asked for, and
-/// the surface is committed.
+/// The globals wl_compositor, wl_shm and xdg_wm_base are bound as 3, 4 and 5. A toplevel of the
+/// surface 6 gets its first commit, and acknowledges the configure of serial 1. A buffer of 2 by 1
+/// pixels, of a pool of 8 bytes, is attached and damaged whole. A callback 11 is asked for, and the
+/// surface is committed.
 const WINDOW: &[u8] = b"\x01\0\0\0\x01\0\x0c\0\x02\0\0\0\
 \x02\0\0\0\0\0\x28\0\x01\0\0\0\x0e\0\0\0wl_compositor\0\0\0\x02\0\0\0\x03\0\0\0\
 \x02\0\0\0\0\0\x20\0\x03\0\0\0\x07\0\0\0wl_shm\0\0\x01\0\0\0\x04\0\0\0\
@@ -64,7 +65,8 @@ fn is_done(taken: &[u8], time: u32) -> bool {
     }
 }
 
-/// Whether the first client took the answer of its sync, and the second was told of its frame at this time.
+/// Whether the first client took the answer of its sync, and the second was told of its frame at
+/// this time.
 fn are_answered(hub: &MemoryHub, time: u32) -> bool {
     match hub.clients.as_slice() {
         [one, other] => one.taken.as_slice() == ANSWER && is_done(other.taken.as_slice(), time),

@@ -9,7 +9,8 @@ fn path(rt: &HostRuntime, ending: &str) -> Option<String> {
     path_in(rt, folder(rt)?.as_str(), file_name(rt, ending)?.as_str())
 }
 
-/// How the program ends that takes three turns without clients, with these options more. None where it told something.
+/// How the program ends that takes three turns without clients, with these options more. None where
+/// it told something.
 fn serves(rt: &HostRuntime, ending: &str, options: &str) -> Option<Status> {
     let socket = path(rt, ending)?;
     let text = format!(in rt.alloc();
@@ -20,8 +21,8 @@ fn serves(rt: &HostRuntime, ending: &str, options: &str) -> Option<Status> {
     status
 }
 
-/// How the program ends whose socket is in a folder that isn't there, with these options more. None where it said something else of the
-/// fault, or reported something.
+/// How the program ends whose socket is in a folder that isn't there, with these options more. None
+/// where it said something else of the fault, or reported something.
 fn fails(rt: &HostRuntime, options: &str, fault: &str) -> Option<Status> {
     let socket = "/no/such/folder/socket";
     let text = format!(in rt.alloc(); "wlframe serve --turns 1 --socket {socket}{options}").ok()?;

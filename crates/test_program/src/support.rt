@@ -64,7 +64,8 @@ fn words_of(text: &str, alloc: Global) -> Option<Vec<String>> {
     Some(words)
 }
 
-/// How the program ends that is run with these words, with what it printed, and what it said of a fault.
+/// How the program ends that is run with these words, with what it printed, and what it said of a
+/// fault.
 pub(crate) fn printed<A: Allocator + Copy, I: BufRead, W: Write>(
     rt: &HostRuntime,
     alloc: A,
@@ -107,7 +108,8 @@ pub(crate) fn ends<A: Allocator + Copy, I: BufRead, W: Write>(
     }
 }
 
-/// How the program ends that reads a recording. None where it said something else of a fault, or gave another report.
+/// How the program ends that reads a recording. None where it said something else of a fault, or
+/// gave another report.
 pub(crate) fn plays(
     rt: &HostRuntime,
     text: &str,

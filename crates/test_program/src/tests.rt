@@ -76,7 +76,8 @@ fn tells_usage(rt: HostRuntime) {
     assert_eq!(rt; first_missed_use(&rt, USES), None);
 }
 
-/// The place of the first words that end the program otherwise than as a fault of usage of which this is said.
+/// The place of the first words that end the program otherwise than as a fault of usage of which
+/// this is said.
 fn first_taken(rt: &HostRuntime, uses: &[&str], fault: &str) -> Option<usize> {
     for (place, &text) in uses.iter().enumerate() {
         if plays(rt, text, b"", fault, b"") != Some(Status::Usage) {
@@ -97,7 +98,8 @@ fn tells_bad_rates(rt: HostRuntime) {
     assert_eq!(rt; first_taken(&rt, BAD_RATES, fault), None);
 }
 
-/// How the program ends that is run with these words, and whether it printed just this and said what contains the other.
+/// How the program ends that is run with these words, and whether it printed just this and said
+/// what contains the other.
 fn prints(rt: &HostRuntime, text: &str, wanted: &str, said: &str) -> Option<Status> {
     let mut input: &[u8] = b"";
     let mut output = Vec::new(rt.alloc());

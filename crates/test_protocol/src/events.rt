@@ -265,8 +265,9 @@ fn body_of(long: Long, bytes: &[u8]) -> EventBody<'_> {
     }
 }
 
-// A message has at most 65,532 bytes. Of them the header takes 8, a number or an object 4, the length of a string or
-// an array 4, and a string ends in a NUL. Each event, the byte that it has so many times, and whether it is the longest or too long.
+// A message has at most 65,532 bytes. Of them the header takes 8, a number or an object 4, the
+// length of a string or an array 4, and a string ends in a NUL. Each event, the byte that it has so
+// many times, and whether it is the longest or too long.
 const LONG: &[(Long, u8, usize, bool)] = &[
     (Long::Error, b'a', 65_511, true),
     (Long::Error, b'a', 65_512, false),

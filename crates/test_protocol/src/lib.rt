@@ -1,4 +1,5 @@
-//! Tests of the crates between bytes and objects: messages, requests and events, the objects of a client, and what its wl_pointers are told; with allocations that are refused.
+//! Tests of the crates between bytes and objects: messages, requests and events, the objects of a
+//! client, and what its wl_pointers are told; with allocations that are refused.
 #![tactic(auto)]
 
 #[cfg(test)]

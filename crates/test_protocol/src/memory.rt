@@ -1,4 +1,5 @@
-//! Each allocation refused in turn, alone: what is put, encoded or inserted is as it was then, and once there is memory the same call succeeds.
+//! Each allocation refused in turn, alone: what is put, encoded or inserted is as it was then, and
+//! once there is memory the same call succeeds.
 
 use crate::objects::{IN_ANY_ORDER, has, inserts, surface};
 use crate::words::ARGS;
@@ -36,7 +37,8 @@ fn write<A: Allocator>(out: &mut Vec<u8, A>, written: Written) -> Result<(), Put
     }
 }
 
-/// Writes four times, and again where that is refused memory. How often it was, or None where something else is answered or left.
+/// Writes four times, and again where that is refused memory. How often it was, or None where
+/// something else is answered or left.
 fn writes<A: Allocator>(out: &mut Vec<u8, A>, written: Written, wanted: &[u8]) -> Option<u32> {
     let mut refused = 0u32;
     for _ in 0..4u32 {
@@ -70,7 +72,8 @@ fn writes_with(alloc: Global, served: u64, written: Written, wanted: &[u8]) -> O
     }
 }
 
-/// How many allocations were refused, one in each of as many runs. None where something was otherwise.
+/// How many allocations were refused, one in each of as many runs. None where something was
+/// otherwise.
 fn refused_of(alloc: Global, written: Written) -> Option<u64> {
     let mut wanted = Vec::new(alloc);
     for _ in 0..4u32 {
@@ -110,7 +113,8 @@ fn has_first<A: Allocator>(objects: &Objects<A>, ids: &[u32], count: usize) -> b
     objects.len() == count
 }
 
-/// Inserts an object, and again where that is refused memory. Whether it was, or None where something else is answered or left.
+/// Inserts an object, and again where that is refused memory. Whether it was, or None where
+/// something else is answered or left.
 fn inserts_at<A: Allocator + Copy>(
     objects: &mut Objects<A>,
     ids: &[u32],
@@ -149,7 +153,8 @@ fn inserts_with(alloc: Global, served: u64, ids: &[u32]) -> Option<bool> {
     }
 }
 
-/// How many allocations were refused, one in each of as many tables. None where something was otherwise.
+/// How many allocations were refused, one in each of as many tables. None where something was
+/// otherwise.
 fn refused_of_objects(alloc: Global, ids: &[u32]) -> Option<u64> {
     for served in 0..MANY {
         if !inserts_with(alloc, served, ids)? {

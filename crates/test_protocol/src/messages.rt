@@ -4,7 +4,8 @@ use crate::requests::is_same;
 use std::alloc::Global;
 use wl_proto::*;
 
-// An interface, an opcode and the words of a body, and the request that they are at version 2, or why they are none.
+// An interface, an opcode and the words of a body, and the request that they are at version 2, or
+// why they are none.
 type Read<'a> = (Interface, u16, &'a [u32], Result<Request<'a>, ProtoError>);
 
 // The bytes of words. None where there is no memory for them.
@@ -662,7 +663,8 @@ const LATER_OF_POPUPS: &[(u32, Read)] = &[
     ),
 ];
 
-// Requests that came with a later version than the first: the version, and how they are read from it on.
+// Requests that came with a later version than the first: the version, and how they are read from
+// it on.
 const LATER: &[&[(u32, Read)]] = &[LATER_OF_SURFACES, LATER_OF_POPUPS];
 
 const VERSIONS: &[u32] = &[1, 2, 3, 4];

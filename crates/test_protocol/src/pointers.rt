@@ -1,4 +1,5 @@
-//! What the wl_pointers of a client are told, spelled by hand, up to the limit of the bytes that may wait for it.
+//! What the wl_pointers of a client are told, spelled by hand, up to the limit of the bytes that
+//! may wait for it.
 
 use crate::messages::bytes_of;
 use std::alloc::{Allocator, Global};
@@ -45,7 +46,8 @@ const RELEASE: PointerEvent = PointerEvent::Button {
     pressed: false,
 };
 
-/// What two wl_pointers are told by turns, and the words of the messages: one serial for both, and none in a motion.
+/// What two wl_pointers are told by turns, and the words of the messages: one serial for both, and
+/// none in a motion.
 const TOLD: &[(PointerEvent, &[u32])] = &[
     (
         ENTER,
@@ -112,8 +114,8 @@ fn nearly_slow(alloc: Global) -> Option<Client<Global>> {
     Some(client)
 }
 
-/// The second of two events has no room: the first waits, and the client is to end. It is told nothing more then, even where there is room
-/// again.
+/// The second of two events has no room: the first waits, and the client is to end. It is told
+/// nothing more then, even where there is room again.
 fn stops_at_the_second(alloc: Global) -> bool {
     let Some(mut client) = nearly_slow(alloc) else {
         return false;
@@ -134,7 +136,8 @@ fn stops_where_too_many_bytes_wait(rt: HostRuntime) {
     assert!(rt; stops_at_the_second(rt.alloc()));
 }
 
-/// Whether the client is told to enter, or is to end as out of memory and was told less. How often it was refused memory.
+/// Whether the client is told to enter, or is to end as out of memory and was told less. How often
+/// it was refused memory.
 fn enters<A: Allocator + Copy>(client: &mut Client<A>, wanted: &[u8]) -> Option<u32> {
     match client.tell_pointers(TWO, ENTER) {
         Ok(()) if client.unsent() == wanted && client.to_end_for().is_none() => Some(0),
@@ -146,7 +149,8 @@ fn enters<A: Allocator + Copy>(client: &mut Client<A>, wanted: &[u8]) -> Option<
     }
 }
 
-/// How often one of them was refused memory, where each is told, or is to end. None where it isn't so.
+/// How often one of them was refused memory, where each is told, or is to end. None where it isn't
+/// so.
 fn refused(alloc: Global, wanted: &[u8]) -> Option<u32> {
     let mut times = 0u32;
     for served in 0..MANY {

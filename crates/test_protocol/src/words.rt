@@ -14,7 +14,8 @@ fn puts_a_message(rt: HostRuntime) {
     assert!(rt; puts_two(&mut out));
 }
 
-// Whether a text is refused that makes a message too long by a byte, and then put without its first byte.
+// Whether a text is refused that makes a message too long by a byte, and then put without its first
+// byte.
 fn puts_longest<A: Allocator>(out: &mut Vec<u8, A>, longer: &[u8]) -> bool {
     match longer.get(1..) {
         Some(longest) => {

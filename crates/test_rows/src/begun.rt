@@ -1,4 +1,5 @@
-//! What many rows begin with: the globals that a client binds, its buffers, and a toplevel that is mapped.
+//! What many rows begin with: the globals that a client binds, its buffers, and a toplevel that is
+//! mapped.
 
 use crate::rows::{Case, Fault, Message, REGISTRY, Row, first_missed_case};
 use std::alloc::Global;
@@ -53,7 +54,8 @@ pub const GLOBALS_4: &[Row] = &[
 /// The pool 9 of so many bytes.
 pub const POOL_12800: Message = Message(4, 0, &[Arg::NewId(9), Arg::Int(12800)]);
 
-/// The buffer 10 of the pool 9 at its start, and the buffer 11 behind it: 40 by 40 pixels with a stride of 160, of the format 1.
+/// The buffer 10 of the pool 9 at its start, and the buffer 11 behind it: 40 by 40 pixels with a
+/// stride of 160, of the format 1.
 pub const BUFFER_10: Message = Message(
     9,
     0,
@@ -148,7 +150,8 @@ pub const SEATED: &[Row] = &[
     Row::Sends(Message(12, 0, &[Arg::NewId(13)])),
 ];
 
-/// The client 2 has the registry 2, the wl_compositor 3, the wl_shm 4 and the xdg_wm_base 5, and a toplevel that was configured.
+/// The client 2 has the registry 2, the wl_compositor 3, the wl_shm 4 and the xdg_wm_base 5, and a
+/// toplevel that was configured.
 pub const SECOND: &[Row] = &[
     Row::Calls(Step::Connect, Done::Connect(Ok(2))),
     Row::From(2, Message(1, 1, &[Arg::NewId(2)])),
@@ -214,7 +217,8 @@ pub const MAPPED: &[&[Row]] = &[
     MAPS,
 ];
 
-/// The first of the cases that isn't as wanted after the toplevel's configure was acknowledged and its buffers were made, and what wasn't.
+/// The first of the cases that isn't as wanted after the toplevel's configure was acknowledged and
+/// its buffers were made, and what wasn't.
 pub fn missed_after_buffers(alloc: Global, cases: &[Case]) -> Option<(usize, Fault)> {
     first_missed_case(alloc, BUFFERED, cases)
 }

@@ -1,5 +1,5 @@
-//! What the tests of a session share: rows of what is done in one and what is wanted of it, and what many of them begin with. The product doesn't
-//! use it.
+//! What the tests of a session share: rows of what is done in one and what is wanted of it, and
+//! what many of them begin with. The product doesn't use it.
 #![tactic(auto)]
 
 pub mod begun;

@@ -1,4 +1,5 @@
-//! Sessions as tables: rows of what is done in a session, or of how it is, each with what is wanted of it.
+//! Sessions as tables: rows of what is done in a session, or of how it is, each with what is wanted
+//! of it.
 
 use std::alloc::Global;
 use wl_session::{Cause, Config, Done, Fed, Rgb, Session, ShownWindow, Step, Stored};
@@ -36,13 +37,16 @@ pub enum Row<'a> {
     Sends(Message<'a>),
     /// A client sends a message and lives on.
     From(u32, Message<'a>),
-    /// The client 1 binds by its registry 2: a global's name, interface and version, and the new id. How the client is afterwards.
+    /// The client 1 binds by its registry 2: a global's name, interface and version, and the new
+    /// id. How the client is afterwards.
     Binds(u32, &'a [u8], u32, u32, Fed),
-    /// The client 1 sends a message and lives on. What waits for it then are these messages, and they are taken.
+    /// The client 1 sends a message and lives on. What waits for it then are these messages, and
+    /// they are taken.
     Accepts(Message<'a>, &'a [Message<'a>]),
     /// The client 1 sends a message, and ends by an error of this object and code.
     Errs(Message<'a>, u32, u32),
-    /// A piece of the client 1 comes byte by byte. Nothing waits for it before each byte, and it lives on.
+    /// A piece of the client 1 comes byte by byte. Nothing waits for it before each byte, and it
+    /// lives on.
     Drips(&'a [u8]),
     /// The client 1 sends so many syncs with the new callback 2.
     Syncs(u32),
@@ -58,8 +62,8 @@ pub enum Row<'a> {
     MakesPools(u32, u32),
     /// The client 1 makes surfaces with these ids by its wl_compositor 3, and lives on.
     MakesSurfaces(u32, u32),
-    /// The client 1 makes each surface with these ids a subsurface of the one before it by its wl_subcompositor 9, and lives on.
-    /// The new ids are 100 more.
+    /// The client 1 makes each surface with these ids a subsurface of the one before it by its
+    /// wl_subcompositor 9, and lives on. The new ids are 100 more.
     Nests(u32, u32),
     /// The client 1 sends two messages by turns, each so many times, and lives on.
     Changes(u32, Message<'a>, Message<'a>),
@@ -67,19 +71,23 @@ pub enum Row<'a> {
     Takes,
     /// All that waits for a client is taken.
     TakesOf(u32),
-    /// So many pixels of a client's store from a byte on get this value: blue, green, red and alpha.
+    /// So many pixels of a client's store from a byte on get this value: blue, green, red and
+    /// alpha.
     Fills(u32, u32, u32, u32, &'a [u8]),
-    /// A pixel of the store 1 of a client at a byte gets this value, of which nothing is told. At the tick after it nothing is damaged, and all is as at
-    /// the one before but in the columns and rows of this span.
+    /// A pixel of the store 1 of a client at a byte gets this value, of which nothing is told. At
+    /// the tick after it nothing is damaged, and all is as at the one before but in the columns and
+    /// rows of this span.
     Spoils(u32, u32, &'a [u8], Span),
-    /// A tick: how many points of its frame are damaged at least and at most, and some of its pixels.
+    /// A tick: how many points of its frame are damaged at least and at most, and some of its
+    /// pixels.
     Shows(u32, u32, &'a [Pixel]),
     /// The windows of the output, from bottom to top.
     Stacked(&'a [ShownWindow]),
     /// A tick at a time, and how many points of its frame are damaged.
     Ticks(u32, u32),
-    /// The client 1 asks for its toplevel 8 to be maximized as often as there are serials from the one to before the other. Each time it is told a
-    /// configure of the toplevel and one of the xdg_surface 7, with the next of these serials, which are taken.
+    /// The client 1 asks for its toplevel 8 to be maximized as often as there are serials from the
+    /// one to before the other. Each time it is told a configure of the toplevel and one of the
+    /// xdg_surface 7, with the next of these serials, which are taken.
     Maximizes(u32, u32),
     /// How a client is.
     Is(u32, Fed),
@@ -602,7 +610,8 @@ fn play_row(alloc: Global, parts: &[&[Row]], row: &Row) -> Result<(), Fault> {
     }
 }
 
-/// The first of the rows that isn't as wanted, each in a session of its own after these parts, and what wasn't.
+/// The first of the rows that isn't as wanted, each in a session of its own after these parts, and
+/// what wasn't.
 pub fn first_missed_row(alloc: Global, parts: &[&[Row]], rows: &[Row]) -> Option<(usize, Fault)> {
     for (place, row) in rows.iter().enumerate() {
         if let Err(fault) = play_row(alloc, parts, row) {
@@ -612,8 +621,8 @@ pub fn first_missed_row(alloc: Global, parts: &[&[Row]], rows: &[Row]) -> Option
     None
 }
 
-/// The first of the cases that isn't as wanted, each in a session of its own of an output of this size, which is 64 pixels wide, after the parts
-/// that they share, and what wasn't.
+/// The first case that isn't as wanted, and what wasn't. Each is played in a session of its own,
+/// after the parts that they share. The output has the size of `config`, and is 64 pixels wide.
 pub fn first_missed_case_on(
     alloc: Global,
     config: &Config,
@@ -628,7 +637,8 @@ pub fn first_missed_case_on(
     None
 }
 
-/// The first of the cases that isn't as wanted, each in a session of its own after the parts that they share, and what wasn't.
+/// The first of the cases that isn't as wanted, each in a session of its own after the parts that
+/// they share, and what wasn't.
 pub fn first_missed_case(
     alloc: Global,
     first: &[&[Row]],

@@ -1,4 +1,5 @@
-//! Tests of the server and of its hub, over hubs in memory and over sockets, and of the lines of a pointer file.
+//! Tests of the server and of its hub, over hubs in memory and over sockets, and of the lines of a
+//! pointer file.
 #![tactic(auto)]
 
 #[cfg(test)]

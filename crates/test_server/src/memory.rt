@@ -149,7 +149,8 @@ impl<'a> Hub for MemoryHub<'a> {
     }
 }
 
-/// Side files of which there is none but one, which is empty. It counts how often that one was opened.
+/// Side files of which there is none but one, which is empty. It counts how often that one was
+/// opened.
 #[derive(Drop)]
 pub struct OneFile<'a> {
     pub name: &'a str,

@@ -7,8 +7,9 @@ use wl_recording::PointerLine;
 use wl_server::{Connections, Recorded, Service};
 use wl_session::Session;
 
-/// The globals wl_compositor, wl_shm, xdg_wm_base and wl_seat are bound as 3, 4, 5 and 12, and the wl_pointer 13 is made; a toplevel of the surface 6
-/// gets its first commit and acknowledges the configure of serial 1; a buffer of 2 by 1 pixels of a pool of 8 bytes is attached, and the
+/// The globals wl_compositor, wl_shm, xdg_wm_base and wl_seat are bound as 3, 4, 5 and 12, and the
+/// wl_pointer 13 is made. A toplevel of the surface 6 gets its first commit, and acknowledges the
+/// configure of serial 1. A buffer of 2 by 1 pixels, of a pool of 8 bytes, is attached, and the
 /// surface is committed.
 pub(crate) const WINDOW: &[u8] = b"\x01\0\0\0\x01\0\x0c\0\x02\0\0\0\
 \x02\0\0\0\0\0\x28\0\x01\0\0\0\x0e\0\0\0wl_compositor\0\0\0\x02\0\0\0\x03\0\0\0\
@@ -26,8 +27,8 @@ pub(crate) const WINDOW: &[u8] = b"\x01\0\0\0\x01\0\x0c\0\x02\0\0\0\
 \x06\0\0\0\x01\0\x14\0\x0a\0\0\0\0\0\0\0\0\0\0\0\
 \x06\0\0\0\x06\0\x08\0";
 
-/// The first motion is due in the second turn, the two after it in the third, the press in the fourth, and what is behind it in the sixth: the
-/// release waits for the motion before it.
+/// The first motion is due in the second turn, the two after it in the third, and the press in the
+/// fourth. What is behind it is due in the sixth, since the release waits for the motion before it.
 pub(crate) const LINES: &[PointerLine] = &[
     PointerLine::Skip,
     PointerLine::Motion {
@@ -70,14 +71,16 @@ pub(crate) const LINES: &[PointerLine] = &[
 /// wl_pointer.enter with the serial 2, of the surface 6 at (1, 0).
 pub(crate) const ENTER: &[u8] = b"\x0d\0\0\0\0\0\x18\0\x02\0\0\0\x06\0\0\0\0\x01\0\0\0\0\0\0";
 
-/// wl_pointer.motion at the time 3 at (0, 0), and at the time 2 at (1, 0), which is as far as the output goes.
+/// wl_pointer.motion at the time 3 at (0, 0), and at the time 2 at (1, 0), which is the end of the
+/// output.
 const MOTIONS: &[u8] = b"\x0d\0\0\0\x02\0\x14\0\x03\0\0\0\0\0\0\0\0\0\0\0\
 \x0d\0\0\0\x02\0\x14\0\x02\0\0\0\0\x01\0\0\0\0\0\0";
 
 /// wl_pointer.button with the serial 3: the button 272 is pressed, at the time 4.
 const PRESS: &[u8] = b"\x0d\0\0\0\x03\0\x18\0\x03\0\0\0\x04\0\0\0\x10\x01\0\0\x01\0\0\0";
 
-/// wl_pointer.motion at the time 6 at (0, 0); then the button is released, at the time 1, with the serial 4. It isn't again.
+/// wl_pointer.motion at the time 6 at (0, 0); then the button is released, at the time 1, with the
+/// serial 4. It isn't again.
 const RELEASE: &[u8] = b"\x0d\0\0\0\x02\0\x14\0\x06\0\0\0\0\0\0\0\0\0\0\0\
 \x0d\0\0\0\x03\0\x18\0\x04\0\0\0\x01\0\0\0\x10\x01\0\0\0\0\0\0";
 

@@ -19,7 +19,8 @@ const POOL: &[u8] = b"\x01\0\0\0\x01\0\x0c\0\x02\0\0\0\
 \x02\0\0\0\0\0\x20\0\x03\0\0\0\x07\0\0\0wl_shm\0\0\x01\0\0\0\x04\0\0\0\
 \x04\0\0\0\0\0\x10\0\x09\0\0\0\x88\x13\0\0";
 
-/// Side files without an end, of which there is one. It keeps how often it was read, and how many bytes were asked of it.
+/// Side files without an end, of which there is one. It keeps how often it was read, and how many
+/// bytes were asked of it.
 #[derive(Drop)]
 struct Endless {
     reads: u64,

@@ -14,7 +14,8 @@ const SYNC: &[u8] = b"\x01\0\0\0\0\0\x0c\0\x02\0\0\0";
 /// What is recorded of a client that sends it, in the first turn.
 const RECORDED: &[u8] = b"connect\nbytes 1 0100000000000c0002000000\ntick 1\n";
 
-/// What the turns of a session are answered that is recorded by this writer. It ends with the first that isn't `Ok`. None where there is no memory.
+/// What the turns of a session are answered that is recorded by this writer. It ends with the first
+/// that isn't `Ok`. None where there is no memory.
 fn records<R: Write + Drop>(alloc: Global, writer: R, turns: u32) -> Option<Result<(), TurnError>> {
     let Ok(session) = Session::new(alloc, CONFIG) else {
         return None;

@@ -34,7 +34,8 @@ fn is_closed(hub: &MemoryHub, place: usize) -> bool {
     }
 }
 
-/// Whether two clients are served for two turns, this is reported, and each took so many bytes of its answer.
+/// Whether two clients are served for two turns, this is reported, and each took so many bytes of
+/// its answer.
 fn serves(
     alloc: Global,
     clients: Option<Vec<Client>>,

@@ -1,4 +1,5 @@
-//! Turns with slow clients: accepting fails at first, one client never reads what it asks for, and one sends a byte a turn.
+//! Turns with slow clients: accepting fails at first, one client never reads what it asks for, and
+//! one sends a byte a turn.
 
 ghost use Rattle.std.specs.Prelude.{◌≡◌, ◌≤◌, ⊤, IfSome, length};
 
@@ -137,11 +138,11 @@ fn stands(service: &Slow, wanted: Fed) -> bool {
 /// What is told of two clients that connected.
 const BOTH: &[u8] = b"client 1\nclient 2\n";
 
-/// Whether nobody connects in the first turn, and both in the second; and the client that never reads lives as long as what waits for it is
-/// within 1,048,576 bytes, and ends then.
+/// Whether nobody connects in the first turn, and both in the second. The client that never reads
+/// lives while at most 1,048,576 bytes wait for it, and ends then.
 ///
-/// Each turn reads 16 times 4,096 bytes, and 12 of them are answered by 24: after eight turns 43,690 syncs wait with 1,048,560 bytes, and in the
-/// ninth the next one passes the limit.
+/// Each turn reads 16 times 4,096 bytes, and answers 12 of them by 24. After eight turns 43,690
+/// syncs wait, with 1,048,560 bytes. In the ninth the next one passes the limit.
 fn ends_the_one(
     service: &mut Slow,
     connections: &mut Connections<Way>,
@@ -155,7 +156,8 @@ fn ends_the_one(
         && stands(service, Fed::Ended(Cause::Slow))
 }
 
-/// Whether the client that ended isn't closed, and the one that sends a byte a turn is answered as its last one came.
+/// Whether the client that ended isn't closed, and the one that sends a byte a turn is answered as
+/// its last one came.
 fn answers_the_other(
     service: &mut Slow,
     connections: &mut Connections<Way>,

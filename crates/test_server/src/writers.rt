@@ -6,8 +6,9 @@ use std::io::{self, Write};
 use wl_server::{Connections, Recorded, Service, TurnError, turn};
 use wl_session::{Config, Rgb, Session};
 
-/// A window of 2 by 1 black points: get_registry, binds of wl_compositor, wl_shm and xdg_wm_base, a surface and its toplevel, its first commit,
-/// the ack of its configure, a pool of 8 bytes with a buffer of them, and the commit that shows it.
+/// A window of 2 by 1 black points. It takes get_registry, binds of wl_compositor, wl_shm and
+/// xdg_wm_base, a surface and its toplevel, its first commit, and the ack of its configure. Then
+/// come a pool of 8 bytes with a buffer of them, and the commit that shows it.
 const WINDOW: &[u8] = b"\x01\0\0\0\x01\0\x0c\0\x02\0\0\0\
 \x02\0\0\0\0\0(\0\x01\0\0\0\x0e\0\0\0wl_compositor\0\0\0\x01\0\0\0\x03\0\0\0\
 \x02\0\0\0\0\0 \0\x03\0\0\0\x07\0\0\0wl_shm\0\0\x01\0\0\0\x04\0\0\0\
@@ -56,8 +57,8 @@ impl Write for Failing {
     }
 }
 
-/// What the turns of a session with these writers are answered, where a client makes the window. It ends with the first that isn't `Ok`. None
-/// where there is no memory.
+/// What the turns of a session with these writers are answered, where a client makes the window. It
+/// ends with the first that isn't `Ok`. None where there is no memory.
 fn takes<W: Write, P: Write>(
     alloc: Global,
     report: &mut W,

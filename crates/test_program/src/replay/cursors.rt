@@ -2,8 +2,8 @@
 
 use crate::replay::support::{SMALL, first_missed};
 
-/// get_registry(2), and binds of wl_compositor as 3, wl_seat as 4, xdg_wm_base as 5 and wl_subcompositor as 6; then get_pointer(7) and
-/// create_surface(8).
+/// get_registry(2), and binds of wl_compositor as 3, wl_seat as 4, xdg_wm_base as 5 and
+/// wl_subcompositor as 6; then get_pointer(7) and create_surface(8).
 const POINTER: &[u8] = b"connect
 bytes 1 01000000 01000c00 02000000
 bytes 1 02000000 00002800 01000000 0e000000 776c5f63 6f6d706f 7369746f 72000000 02000000 03000000
@@ -16,7 +16,8 @@ bytes 1 03000000 00000c00 08000000
 
 /// Lines behind those, and their report.
 const ROWS: &[(&[u8], &[u8])] = &[
-    // set_cursor of the surface, again with another serial and hotspot, and of none; the surface is committed, and a sync is answered.
+    // set_cursor of the surface, again with another serial and hotspot, and of none; the surface is
+    // committed, and a sync is answered.
     (
         b"bytes 1 07000000 00001800 00000000 08000000 00000000 00000000
 bytes 1 07000000 00001800 07000000 08000000 04000000 fcffffff

@@ -64,7 +64,8 @@ fn judged_failed(is_as_wanted: bool) -> Outcome {
     }
 }
 
-/// Whether so many bytes of the recording were left unread, and the report tells of the lines before them.
+/// Whether so many bytes of the recording were left unread, and the report tells of the lines
+/// before them.
 fn is_told(left: usize, report: &[u8]) -> bool {
     let read = RECORDING.len().saturating_sub(left);
     let end = told(&RECORDING[..read]).min(REPORT.len());

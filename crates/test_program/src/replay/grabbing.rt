@@ -1,10 +1,12 @@
-//! Popups that grab, and presses that dismiss them (xdg-shell.xml, xdg_popup.grab). The output has 64 by 64 pixels.
+//! Popups that grab, and presses that dismiss them (xdg-shell.xml, xdg_popup.grab). The output has
+//! 64 by 64 pixels.
 
 use crate::replay::hovering::TWO;
 use crate::replay::support::{SQUARE, first_missed};
 
-/// Lines behind those of two clients with a window of 40 by 40 pixels each, that of the second at (32, 32), and their report. The second is pressed,
-/// and makes a popup of 8 by 8 pixels at (8, 8), above the window of the first, that grabs with the serial of the press.
+/// Lines behind those of two clients with a window of 40 by 40 pixels each, that of the second at
+/// (32, 32), and their report. The second is pressed, and makes a popup of 8 by 8 pixels at (8, 8),
+/// above the window of the first, that grabs with the serial of the press.
 const OVER_TWO: &[(&[u8], &[u8])] = &[
     // A press where nothing is dismisses it: its points are painted again.
     (

@@ -1,8 +1,10 @@
-//! The pointer over the windows of clients (wayland.xml, wl_pointer.enter, motion and leave). The output has 64 by 64 pixels.
+//! The pointer over the windows of clients (wayland.xml, wl_pointer.enter, motion and leave). The
+//! output has 64 by 64 pixels.
 
 use crate::replay::support::{SQUARE, first_missed};
 
-/// A client with a window of 40 by 40 pixels at (0, 0) on the surface 6, and with the wl_pointer 13.
+/// A client with a window of 40 by 40 pixels at (0, 0) on the surface 6, and with the wl_pointer
+/// 13.
 pub(crate) const ONE: &[u8] = b"connect
 bytes 1 01000000 01000c00 02000000
 bytes 1 02000000 00002800 01000000 0e000000 776c5f63 6f6d706f 7369746f 72000000 02000000 03000000

@@ -4,7 +4,8 @@ use crate::replay::support::played;
 use std::alloc::Global;
 use wl_replay::{LINE_LIMIT, MAX_LINES, ReplayError, Summary};
 
-/// So many bytes that are alike, and a line feed behind them where it is asked for. None where there is no memory for them.
+/// So many bytes that are alike, and a line feed behind them where it is asked for. None where
+/// there is no memory for them.
 fn alike(alloc: Global, byte: u8, count: usize, is_ended: bool) -> Option<Vec<u8>> {
     let mut recording = vec![in alloc; byte; count].ok()?;
     if is_ended {

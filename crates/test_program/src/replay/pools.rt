@@ -4,8 +4,8 @@ use crate::replay::support::{OneFile, play_with, played};
 use std::alloc::Global;
 use wl_replay::{ReplayError, SideFiles, Summary};
 
-/// get_registry(2), and binds of wl_compositor as 3, wl_shm as 4 and xdg_wm_base as 5; then create_pool(9, 12800), and two
-/// buffers of 40 by 40.
+/// get_registry(2), and binds of wl_compositor as 3, wl_shm as 4 and xdg_wm_base as 5; then
+/// create_pool(9, 12800), and two buffers of 40 by 40.
 const POOL: &[u8] = b"connect
 bytes 1 01000000 01000c00 02000000
 bytes 1 02000000 00002800 01000000 0e000000 776c5f636f6d706f7369746f72000000 02000000 03000000
@@ -79,7 +79,8 @@ fn writes_within_a_store_and_not_outside(rt: HostRuntime) {
     assert_eq!(rt; first_missed_write(rt.alloc(), WRITES), None);
 }
 
-/// A line, its report, and how often the file is opened and read, with how many bytes asked and given.
+/// A line, its report, and how often the file is opened and read, with how many bytes asked and
+/// given.
 type Line<'a> = (&'a str, &'a str, [u64; 4]);
 
 const FILES: &[Line] = &[
@@ -93,15 +94,16 @@ const FILES: &[Line] = &[
     ("file 2 1 0 a\n", "none 2\n", [0, 0, 0, 0]),
 ];
 
-/// Whether a line is played after those of the pool with a file of these bytes beside it, and all is as wanted.
+/// Whether a line is played after those of the pool with a file of these bytes beside it, and all
+/// is as wanted.
 fn is_read(alloc: Global, bytes: &[u8], line: &Line) -> bool {
     let mut side = OneFile::new("a", bytes);
     is_told(alloc, line.0, &mut side, line.1)
         && [side.opens, side.reads, side.asked, side.given] == line.2
 }
 
-/// The place of the first line that isn't as wanted with a file of 12,801 bytes beside it. `Some(None)` where all are, and None where there is no
-/// memory for the file.
+/// The place of the first line that isn't as wanted with a file of 12,801 bytes beside it.
+/// `Some(None)` where all are, and None where there is no memory for the file.
 fn first_missed_file(alloc: Global, lines: &[Line]) -> Option<Option<usize>> {
     let bytes = vec![in alloc; 7u8; 12_801].ok()?;
     for (place, line) in lines.iter().enumerate() {
@@ -124,7 +126,8 @@ fn short_files_end_by_themselves(rt: HostRuntime) {
     assert!(rt; is_read(rt.alloc(), b"three", &line));
 }
 
-/// How lines are played of which the second names a file that isn't there. None where more is reported than of the line before it.
+/// How lines are played of which the second names a file that isn't there. None where more is
+/// reported than of the line before it.
 fn plays_missing(alloc: Global) -> Option<Result<Summary, ReplayError>> {
     let lines = b"store 1 2 0 00\nfile 1 1 0 b\ngone 1\n";
     let mut side = OneFile::new("a", b"bytes");
@@ -140,7 +143,8 @@ fn a_missing_file_stops_the_replay(rt: HostRuntime) {
 /// Five reads in all: three that give something and the file's end, and the one of a full store.
 const FIVE_READS: &[u8] = b"store 1 2 0 00\nfile 1 1 0 a\nfile 1 1 12799 a\ngone 1\n";
 
-/// Whether the read of this number fails, the line of its file is named, and no more is reported than of the lines before the first file.
+/// Whether the read of this number fails, the line of its file is named, and no more is reported
+/// than of the lines before the first file.
 fn fails_at(alloc: Global, bytes: &[u8], read: u64) -> bool {
     let mut side = OneFile::new("a", bytes).failing_at(read);
     let line = POOL_LINES + if read < 4 { 2 } else { 3 };
@@ -158,8 +162,9 @@ fn plays_without_a_fault(alloc: Global, bytes: &[u8]) -> bool {
     }
 }
 
-/// The first of the reads whose failing isn't told of, or 5 where all five are and a run without a fault isn't as wanted. `Some(None)` where all is
-/// as wanted, and None where there is no memory for the file.
+/// The first of the reads whose failing isn't told of, or 5 where all five are and a run without a
+/// fault isn't as wanted. `Some(None)` where all is as wanted, and None where there is no memory
+/// for the file.
 fn first_missed_read(alloc: Global) -> Option<Option<u64>> {
     let bytes = vec![in alloc; 7u8; 9_000].ok()?;
     for read in 0..5_u64 {

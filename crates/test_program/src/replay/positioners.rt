@@ -71,7 +71,8 @@ const REQUESTS: &[(&str, &str)] = &[
         "bytes 1 04000000 00000800\nbytes 1 03000000 01000c00 04000000\nbytes 1 04000000 01001000 00000000 08000000\n",
         "to 1 0100000001000c0004000000\nto 1 010000000000240004000000000000000e000000696e76616c69645f696e707574000000\nend 1 protocol 4 0\n",
     ),
-    // The arguments and the version's opcodes come before a request's own errors, and an id that is in use is refused.
+    // The arguments and the version's opcodes come before a request's own errors, and an id that is
+    // in use is refused.
     (
         "bytes 1 04000000 01001400 00000000 00000000 00000000\n",
         "to 1 010000000000240001000000010000000f000000696e76616c69645f6d6574686f640000\nend 1 protocol 1 1\n",

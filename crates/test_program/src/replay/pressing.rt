@@ -1,5 +1,5 @@
-//! Buttons of the pointer over the windows of clients (wayland.xml, wl_pointer.button, and xdg-shell.xml, xdg_toplevel.move). The output has 64 by
-//! 64 pixels.
+//! Buttons of the pointer over the windows of clients (wayland.xml, wl_pointer.button, and
+//! xdg-shell.xml, xdg_toplevel.move). The output has 64 by 64 pixels.
 
 use crate::replay::hovering::{ONE, TWO};
 use crate::replay::support::{SQUARE, first_missed};
@@ -42,7 +42,8 @@ tick 2
 ",
         b"to 1 0d0000000000180002000000060000000005000000050000\nto 1 0d00000003001800030000000b0000001001000001000000\nto 1 0d00000003001800040000000d0000001101000001000000\nto 1 0d00000003001800050000000e0000001001000000000000\nto 1 0d0000000300180006000000100000001101000000000000\nframe 1 1680\nto 1 0d00000002001400110000000006000000050000\nframe 2 0\n",
     ),
-    // It goes as far as the pointer, which is held within the output: to (58, 58), where 36 of its pixels are seen.
+    // It goes with the pointer, which is held within the output: to (58, 58), where 36 of its
+    // pixels are seen.
     (
         b"motion 10 5 5
 button 11 272 1
@@ -110,7 +111,8 @@ button 2 272 1
 ",
         b"to 1 0d0000000000180002000000060000000005000000050000\nto 1 0e0000000000180003000000060000000005000000050000\nto 1 0d00000003001800040000000200000010010000010000000e0000000300180004000000020000001001000001000000\n",
     ),
-    // Where the pointer is over no window nobody is told. The button stays down, so that nothing is entered until it is up.
+    // Where the pointer is over no window nobody is told. The button stays down, so that nothing is
+    // entered until it is up.
     (
         b"motion 1 50 50
 button 2 272 1
@@ -132,8 +134,8 @@ motion 4 10 10
 ",
         b"to 2 0d000000000018000200000006000000000d0000000d0000\nto 2 0d0000000300180003000000020000001001000001000000\nto 2 0d0000000300180004000000030000001001000000000000\nto 1 0d000000000018000200000006000000000a0000000a0000\nto 2 0d000000010010000500000006000000\n",
     ),
-    // A press over the lower window puts it on top: the pointer stays over it at (35, 35), where the other was. With the next press that one is on top
-    // again.
+    // A press over the lower window puts it on top: the pointer stays over it at (35, 35), where
+    // the other was. With the next press that one is on top again.
     (
         b"motion 1 5 5
 button 2 272 1
@@ -146,7 +148,8 @@ motion 8 35 35
 ",
         b"to 1 0d0000000000180002000000060000000005000000050000\nto 1 0d0000000300180003000000020000001001000001000000\nto 1 0d0000000300180004000000030000001001000000000000\nto 1 0d00000002001400040000000023000000230000\nto 1 0d000000010010000500000006000000\nto 2 0d000000000018000200000006000000000d0000000d0000\nto 2 0d0000000300180003000000060000001001000001000000\nto 2 0d0000000300180004000000070000001001000000000000\nto 2 0d00000002001400080000000003000000030000\n",
     ),
-    // The client of the surface that has the focus goes while the button is down: the window below is entered once it is up.
+    // The client of the surface that has the focus goes while the button is down: the window below
+    // is entered once it is up.
     (
         b"motion 1 35 35
 button 2 272 1
@@ -166,7 +169,8 @@ button 4 272 0
 ",
         b"to 2 0d0000000000180002000000060000000003000000030000\nto 2 0d0000000300180003000000020000001001000001000000\nend 2 gone\nto 1 0d0000000000180002000000060000000005000000050000\n",
     ),
-    // A client moves no window with the serial of another's press, nor where another's surface has the focus.
+    // A client moves no window with the serial of another's press, nor where another's surface has
+    // the focus.
     (
         b"motion 1 45 45
 button 2 272 1

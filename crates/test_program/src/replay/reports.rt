@@ -177,7 +177,8 @@ const BAD_LINES: &[&str] = &[
     "button 0 x 1",
 ];
 
-/// Whether the line after that of a client is refused by its number, and no more is reported than of the client.
+/// Whether the line after that of a client is refused by its number, and no more is reported than
+/// of the client.
 fn is_refused(alloc: Global, line: &str) -> Option<bool> {
     let text = format!(in alloc; "connect\n{line}\ntick 0\n").ok()?;
     let (played, written) = played(alloc, text.as_bytes());

@@ -196,7 +196,8 @@ fn is_reported(alloc: Global, config: Config, beginning: &[u8], lines: &[u8], re
     }
 }
 
-/// The place of the first lines behind those of a beginning that aren't played to their end, or have another report.
+/// The place of the first lines behind those of a beginning that aren't played to their end, or
+/// have another report.
 pub(crate) fn first_missed(
     alloc: Global,
     config: Config,

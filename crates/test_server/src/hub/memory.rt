@@ -27,7 +27,8 @@ impl<'a, A: Allocator> Client<'a, A> {
 /// The number of a call that isn't made.
 pub(crate) const NEVER: u64 = u64::MAX;
 
-/// A hub for one client, whose reads and writes move at most `largest` bytes a call. Calls of either kind are counted from 0.
+/// A hub for one client, whose reads and writes move at most `largest` bytes a call. Calls of
+/// either kind are counted from 0.
 #[derive(Drop)]
 pub(crate) struct MemoryHub<'a, A: Allocator> {
     pub(crate) waiting: Option<Client<'a, A>>,

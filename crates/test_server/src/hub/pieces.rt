@@ -105,7 +105,8 @@ fn five_bytes<'a>(alloc: Global, is_open: bool) -> MemoryHub<'a, Global> {
     MemoryHub::new(Client::new(alloc, b"abcde", is_open), 3, NEVER, 3)
 }
 
-/// A client that is open leaves a reader waiting, one that has ended is gone, and so is one whose read fails.
+/// A client that is open leaves a reader waiting, one that has ended is gone, and so is one whose
+/// read fails.
 #[test]
 fn a_client_is_gone_at_its_end(rt: HostRuntime) {
     assert!(rt; ends(five_bytes(rt.alloc(), false), Received::Gone));

@@ -121,7 +121,8 @@ fn a_client_connects_sends_takes_and_ends(rt: HostRuntime) {
     assert!(rt; is_served(&rt));
 }
 
-/// Writes until fewer bytes are taken than there are: how many were in all. None where the client is gone, or a thousand times all are taken.
+/// Writes until fewer bytes are taken than there are: how many were in all. None where the client
+/// is gone, or a thousand times all are taken.
 fn filled(hub: &mut SocketHub, far: &mut UnixStream) -> Option<u64> {
     let bytes = [7u8; 65536];
     let mut sent = 0u64;
@@ -152,7 +153,8 @@ fn emptied(near: &mut UnixStream) -> Option<u64> {
     None
 }
 
-/// Whether a full socket is no fault, the client takes all that was sent, and then there is room for more.
+/// Whether a full socket is no fault, the client takes all that was sent, and then there is room
+/// for more.
 fn fills(hub: &mut SocketHub, near: &mut UnixStream, far: &mut UnixStream) -> bool {
     let sent = filled(hub, far);
     sent.is_some()
@@ -179,7 +181,8 @@ fn has_the_rest(near: &mut UnixStream) -> bool {
     read(near, &mut buf) == Ok(4) && read(near, &mut buf) == Ok(0)
 }
 
-/// Whether a client of the hub at this path, whose file is removed then, is sent more than its socket holds.
+/// Whether a client of the hub at this path, whose file is removed then, is sent more than its
+/// socket holds.
 fn fills_at(rt: &HostRuntime, path: &str, hub: &mut SocketHub) -> bool {
     match client(rt, path) {
         Some(mut near) => {
@@ -200,7 +203,8 @@ fn is_filled(rt: &HostRuntime) -> bool {
     }
 }
 
-/// More than a socket holds: the writing stops where it would block, and goes on once the client has read.
+/// More than a socket holds: the writing stops where it would block, and goes on once the client
+/// has read.
 #[test]
 fn a_full_socket_is_waited_for(rt: HostRuntime) {
     assert!(rt; is_filled(&rt));
