@@ -65,4 +65,6 @@ mod trees;
 #[cfg(test)]
 mod two;
 #[cfg(test)]
+mod wholes;
+#[cfg(test)]
 mod windows;

@@ -49,7 +49,11 @@ fn marked(
     if rects.push(rect).is_err() {
         return None;
     }
-    let change = Change { surface, rects };
+    let change = Change {
+        surface,
+        whole: false,
+        rects,
+    };
     if changes.push(change).is_err() {
         return None;
     }

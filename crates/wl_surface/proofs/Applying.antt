@@ -20,7 +20,9 @@ use Rattle.wl_surface.proofs.TreesApplying.{applies-descendants}
 use Rattle.wl_surface.proofs.Coming.{applies-tree}
 use Rattle.wl_surface.proofs.Parents.{same-descent}
 use Rattle.wl_surface.specs.Linked.{Stand, numbered}
-use Rattle.wl_surface.specs.Tree.{AreOnce, AreTold, AreToldAfter, IsTold, applied_among, is_among, shown_among, stacks_among}
+use Rattle.wl_surface.proofs.Marked.{told-marked}
+use Rattle.wl_surface.specs.Seen.{AreToldMarked}
+use Rattle.wl_surface.specs.Tree.{AreOnce, IsTold, applied_among, is_among, shown_among, stacks_among}
 
 -- ---- surfaces of which some are applied
 
@@ -82,12 +84,12 @@ module _ (slots new : Slots) (tied after : Tied) (all : Surfaces) (surface : ℕ
         ∙ stand.there n (subst (λ (ps : List Place). has_place n ps ≡ true) places is);
   }
 
-  pub tree-told : {A : Type 0} (before changes : List (Change A)) → before ≡ [] → AreOnce below → AreToldAfter before below (numbered all) changes → IsTold surface all changes
+  pub tree-told : {A : Type 0} (before changes : List (Change A)) → before ≡ [] → AreOnce below → AreToldMarked before below (numbered all) changes → IsTold surface all changes
   tree-told before changes none once told = record {
     numbers = below;
     once = once;
     those = descend;
-    told = subst (λ cs. AreTold below (numbered all) cs) (sym (told.1 ∙ ap (λ cs. cs ++ told.0) none)) told.2;
+    told = told-marked below (numbered all) before changes none told;
   }
 
   -- the surface itself is among them

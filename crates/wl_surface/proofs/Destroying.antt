@@ -18,7 +18,9 @@ use Rattle.wl_surface.specs.Hanging.{left_without}
 use Rattle.wl_surface.proofs.TreesDestroying.{destroys-surface}
 use Rattle.wl_surface.proofs.TreesEnding.{ends-links}
 use Rattle.wl_surface.specs.Linked.{Stand, numbered}
-use Rattle.wl_surface.specs.Tree.{AreOnce, AreTold, AreToldAfter, IsEndTold, applied_among, is_among, shown_among, stacks_among}
+use Rattle.wl_surface.proofs.Marked.{gone-like, parts-like, told-like}
+use Rattle.wl_surface.specs.Seen.{AreToldMarked, unmarked}
+use Rattle.wl_surface.specs.Tree.{AreOnce, AreTold, IsEndTold, applied_among, is_among, shown_among, stacks_among}
 use Rattle.wl_surface.proofs.Applying.{descend, found-where, freed-so, itself-below, other-than, same-there}
 use Rattle.wl_surface.proofs.Refusing.{both-refuse}
 
@@ -119,14 +121,18 @@ module _ (slots mid new : Slots) (tied between after : Tied) (all : Surfaces) (s
       ∙ ap (λ x. shows_at b (cond x None (numbered all n))) (other-than below surface n (itself-below slots new tied after all surface below stand those) none)) counted
 
   pub destroyed-told : {A : Type 0} (own changes before : List (Change A)) → AreGone surface (surface_at surface all) own → before ≡ own → AreOnce below
-      → AreToldAfter before below (with_at surface None (numbered all)) changes → IsEndTold surface all changes
-  destroyed-told own changes before gone same once told = record {
-    own = own;
-    others = told.0;
-    gone = gone;
-    numbers = below;
-    once = once;
-    those = descend slots new tied after all surface below stand those;
-    told = subst (λ (named : Numbered). AreTold below named told.0) (sym (numbered-left surface all)) told.2;
-    together = told.1 ∙ ap (λ cs. cs ++ told.0) same;
-  }
+      → AreToldMarked before below (with_at surface None (numbered all)) changes → IsEndTold surface all changes
+  destroyed-told own changes before gone same once told =
+      let parts = parts-like own told.2.0 changes (told.1 ∙ ap (map unmarked) (told.2.1 ∙ ap (λ cs. cs ++ told.2.0) same)) in
+      record {
+        own = parts.one;
+        others = parts.other;
+        gone = gone-like surface (surface_at surface all) own parts.one parts.like_first gone;
+        numbers = below;
+        once = once;
+        those = descend slots new tied after all surface below stand those;
+        told =
+            subst (λ (named : Numbered). AreTold below named parts.other) (sym (numbered-left surface all))
+            (told-like below (with_at surface None (numbered all)) told.2.0 parts.other parts.like_second told.2.2);
+        together = parts.together;
+      }

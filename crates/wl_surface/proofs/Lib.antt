@@ -17,6 +17,7 @@ pub mod Hanging
 pub mod Heights
 pub mod Joining
 pub mod Linking
+pub mod Marked
 pub mod Parents
 pub mod Placing
 pub mod Records
@@ -26,6 +27,7 @@ pub mod Rows
 pub mod Says
 pub mod Showing
 pub mod Shown
+pub mod Sights
 pub mod Slots
 pub mod Stacking
 pub mod Standing
@@ -38,3 +40,5 @@ pub mod TreesApplying
 pub mod TreesDestroying
 pub mod TreesEnding
 pub mod Waiting
+pub mod WholeRows
+pub mod Windows

@@ -6,6 +6,7 @@ pub mod Kept
 pub mod Linked
 pub mod Request
 pub mod Room
+pub mod Seen
 pub mod Slots
 pub mod Stacks
 pub mod State
@@ -17,3 +18,4 @@ pub mod Tree
 pub mod TreeLaws
 pub mod Trees
 pub mod Waiting
+pub mod Whole

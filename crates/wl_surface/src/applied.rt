@@ -29,14 +29,17 @@ pub struct Applied<A: Allocator> {
 /// A surface whose state was applied, or which is gone and showed a buffer. `rects` is the damage
 /// that was applied, of the surface and of its buffer. It is in surface pixels, and may pass the
 /// surface's edges. More than 1,024 rectangles damage all of it (wayland.xml, wl_surface.damage,
-/// damage_buffer).
+/// damage_buffer). `whole` says that the surface changes beside its damage. Its size, transform,
+/// scale, mapping, or position plus offset differs, or the order of the mapped windows of its tree
+/// does. A root counts as mapped while it has a buffer.
 #[derive(Drop)]
 pub struct Change<A: Allocator> {
     pub surface: SurfaceNo,
+    pub whole: bool,
     pub rects: Vec<Rect, A>,
 }
 
-/// Applies the surface, and answers what that changes.
+/// Applies the surface, and answers its damage. Whether it changes as a whole is found later.
 pub(crate) fn apply_change<A: Allocator>(
     state: &mut SurfaceState<A>,
     surface: SurfaceNo,
@@ -46,5 +49,9 @@ pub(crate) fn apply_change<A: Allocator>(
     ensures change { (s : Asked) → StandsFor state.old s → IsApplied surface s.history result }
 {
     let rects = state.apply(alloc);
-    Change { surface, rects }
+    Change {
+        surface,
+        whole: false,
+        rects,
+    }
 }

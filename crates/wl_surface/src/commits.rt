@@ -4,7 +4,9 @@ ghost use Rattle.std.specs.Prelude.{ℕ, [], ◌≡◌, ◌==◌, ◌&&◌, not,
 ghost use Rattle.wl_links.specs.Family.{HangTogether, links_in, parents_of, stacks_in};
 ghost use Rattle.wl_surface.specs.Linked.{IsLink, Stand, numbered};
 ghost use Rattle.wl_surface.specs.Room.{HasRoom};
-ghost use Rattle.wl_surface.specs.Tree.{AreAmong, AreOnce, AreShown, AreToldAfter, IsCommitTold, IsDesyncTold, IsEndTold, IsTold, applied_among, is_among, is_committed, is_released, numbers_of, shown_by, stacks_among};
+ghost use Rattle.wl_surface.specs.Seen.{AreOf, AreSeen, AreToldMarked};
+ghost use Rattle.wl_surface.specs.Whole.{AreWhole};
+ghost use Rattle.wl_surface.specs.Tree.{AreAmong, AreOnce, AreShown, IsCommitTold, IsDesyncTold, IsEndTold, IsTold, applied_among, is_among, is_committed, is_released, numbers_of, shown_by, stacks_among};
 ghost use Rattle.wl_surface.specs.Told.{TellsNothing};
 ghost use Rattle.wl_surface.specs.Kept.{buffer_of};
 ghost use Rattle.wl_surface.specs.Request.{Commit};
@@ -19,16 +21,18 @@ ghost use Rattle.wl_links.specs.Trees.{is_under};
 use crate::applied::{Applied, Change};
 use crate::content::{Attached, BufferNo};
 use crate::error::SurfaceError;
+use crate::seen::Seen;
 use crate::states::SurfaceNo;
 use crate::surfaces::Surfaces;
 use crate::tree::{add_freed, apply_each, below, shown_of};
 use std::alloc::{AllocError, Allocator};
 
-/// What a call finds before it applies a tree, while nothing has changed yet: the surfaces, the
-/// buffers that they show, and room for what is told.
+/// What a call finds before it applies a tree, while nothing has changed yet: the tree's surfaces,
+/// what is seen of them, the buffers that they show, and room for what is told.
 #[derive(Drop)]
 pub(crate) struct Room<A: Allocator> {
     pub(crate) below: Vec<SurfaceNo, A>,
+    pub(crate) seen: Seen<A>,
     pub(crate) shown: Vec<Attached, A>,
     pub(crate) changes: Vec<Change<A>, A>,
     pub(crate) freed: Vec<BufferNo, A>,
@@ -48,6 +52,7 @@ impl<A: Allocator + Copy> Surfaces<A> {
         ensures waits { OnOk result ((all : Asked) (cs : List Callback) → Stand self.old.states self.old.family all → AreWaiting self.old.states.frames (numbered all) cs
             → AreWaiting self.new.states.frames (numbered (committed_in surface all)) cs) }
         ensures changes { IfOk result (λ told. (all : Asked) → Stand self.old.states self.old.family all → IsCommitTold surface all told.changes.items) }
+        ensures whole { IfOk result (λ told. (all : Asked) → Stand self.old.states self.old.family all → AreWhole all (committed_in surface all) told.changes.items) }
         ensures freed { IfOk result (λ told. (all : Asked) → Stand self.old.states self.old.family all
             → AreFreed told.freed.items (numbered all) (numbered (committed_in surface all))) }
         ensures shown { IfOk result (λ told. (all : Asked) → Stand self.old.states self.old.family all
@@ -102,6 +107,7 @@ impl<A: Allocator + Copy> Surfaces<A> {
             → AreWaiting self.new.states.frames (numbered (applied_tree levels surface (with_change surface (asking Commit) all))) cs) }
         ensures changes { IfOk result (λ told. (all : Asked) → Stand self.old.states self.old.family all
             → IsTold surface (with_change surface (asking Commit) all) told.changes.items) }
+        ensures whole { IfOk result (λ told. (all : Asked) → Stand self.old.states self.old.family all → AreWhole all (applied_tree levels surface (with_change surface (asking Commit) all)) told.changes.items) }
         ensures freed { IfOk result (λ told. (all : Asked) → Stand self.old.states self.old.family all
             → AreFreed told.freed.items (numbered all) (numbered (applied_tree levels surface (with_change surface (asking Commit) all)))) }
         ensures shown { IfOk result (λ told. (all : Asked) → Stand self.old.states self.old.family all
@@ -131,6 +137,7 @@ impl<A: Allocator + Copy> Surfaces<A> {
             → AreWaiting self.old.states.frames (numbered all) cs → AreWaiting self.new.states.frames (numbered (desynchronised_in number all)) cs) }
         ensures changes { IfOk result (λ told. (all : Asked) (number : ℕ) (link : Link) → IsLink all number child link → Stand self.old.states self.old.family all
             → IsDesyncTold number child all told.changes.items) }
+        ensures whole { IfOk result (λ told. (all : Asked) (number : ℕ) (link : Link) → IsLink all number child link → Stand self.old.states self.old.family all → AreWhole all (desynchronised_in number all) told.changes.items) }
         ensures freed { IfOk result (λ told. (all : Asked) (number : ℕ) (link : Link) → IsLink all number child link → Stand self.old.states self.old.family all
             → AreFreed told.freed.items (numbered all) (numbered (desynchronised_in number all))) }
         ensures shown { IfOk result (λ told. (all : Asked) (number : ℕ) (link : Link) → IsLink all number child link → Stand self.old.states self.old.family all
@@ -168,6 +175,7 @@ impl<A: Allocator + Copy> Surfaces<A> {
             → AreWaiting self.old.states.frames (numbered all) cs → AreWaiting self.new.states.frames (numbered (ended_in all link)) cs) }
         ensures changes { IfOk result (λ told. (all : Asked) (number : ℕ) (link : Link) → IsLink all number child link → Stand self.old.states self.old.family all
             → IsTold child (with_link number ending all) told.changes.items) }
+        ensures whole { IfOk result (λ told. (all : Asked) (number : ℕ) (link : Link) → IsLink all number child link → Stand self.old.states self.old.family all → AreWhole all (ended_in all link) told.changes.items) }
         ensures freed { IfOk result (λ told. (all : Asked) (number : ℕ) (link : Link) → IsLink all number child link → Stand self.old.states self.old.family all
             → AreFreed told.freed.items (numbered all) (numbered (ended_in all link))) }
         ensures shown { IfOk result (λ told. (all : Asked) (number : ℕ) (link : Link) → IsLink all number child link → Stand self.old.states self.old.family all
@@ -198,6 +206,7 @@ impl<A: Allocator + Copy> Surfaces<A> {
         ensures waits { OnOk result ((all : Asked) (cs : List Callback) → Stand self.old.states self.old.family all → AreWaiting self.old.states.frames (numbered all) cs
             → AreWaiting self.new.states.frames (numbered (destroyed_in surface all)) (filter (λ c. not (is_in (frames_at (surface_at surface all)) c)) cs)) }
         ensures changes { IfOk result (λ told. (all : Asked) → Stand self.old.states self.old.family all → IsEndTold surface all told.changes.items) }
+        ensures whole { IfOk result (λ told. (all : Asked) → Stand self.old.states self.old.family all → AreWhole all (destroyed_in surface all) told.changes.items) }
         ensures freed { IfOk result (λ told. (all : Asked) → Stand self.old.states self.old.family all
             → AreFreed told.freed.items (numbered all) (numbered (destroyed_in surface all))) }
         ensures shown { IfOk result (λ told. (all : Asked) → Stand self.old.states self.old.family all
@@ -237,7 +246,7 @@ impl<A: Allocator + Copy> Surfaces<A> {
     }
 
     /// Whether a surface shows a buffer.
-    fn is_shown(&self, surface: SurfaceNo) -> bool
+    pub(crate) fn is_shown(&self, surface: SurfaceNo) -> bool
         ensures { (all : Numbered) → StandForAll self.now.states all → result ≡ is_shown_at (all surface) }
     {
         match self.current(surface) {
@@ -254,6 +263,7 @@ impl<A: Allocator + Copy> Surfaces<A> {
         if self.is_shown(surface) {
             changes.push(Change {
                 surface,
+                whole: false,
                 rects: Vec::new(self.alloc),
             })?;
         }
@@ -267,15 +277,18 @@ impl<A: Allocator + Copy> Surfaces<A> {
         ensures shown { IfOk result (λ room. (all : Numbered) → StandForAll self.now.states all → map buffer_of room.shown.items ≡ shown_by room.below.items all) }
         ensures told { IfOk result (λ room. room.changes.items ≡ told.items) }
         ensures room { IfOk result HasRoom }
+        ensures seen { IfOk result (λ room. (all : Asked) → Stand self.now.states self.now.family all → AreSeen all room.below.items room.seen.looks.items room.seen.order.items) }
         ensures hang { HangTogether self.now.family }
     {
         let below = below(&self.family, surface, self.alloc)?;
+        let seen = self.see(surface, &below)?;
         let shown = shown_of(&self.states, &below, self.alloc)?;
         let mut changes = told;
         changes.reserve(below.len())?;
         let freed = Vec::with_capacity(self.alloc, shown.len())?;
         Ok(Room {
             below,
+            seen,
             shown,
             changes,
             freed,
@@ -288,7 +301,9 @@ impl<A: Allocator + Copy> Surfaces<A> {
         ensures stand { (all : Numbered) → StandForAll self.old.states all → StandForAll self.new.states (applied_among room.below.items all) }
         ensures waits { (all : Numbered) (cs : List Callback) → AreWaiting self.old.states.frames all cs
             → AreWaiting self.new.states.frames (applied_among room.below.items all) cs }
-        ensures told { (all : Numbered) → StandForAll self.old.states all → AreOnce room.below.items → AreToldAfter room.changes.items room.below.items all result.changes.items }
+        ensures told { (all : Numbered) → StandForAll self.old.states all → AreOnce room.below.items → AreToldMarked room.changes.items room.below.items all result.changes.items }
+        ensures whole { (old new : Asked) (all : Numbered) → StandForAll self.old.states all → AreOnce room.below.items → AreOf room.below.items room.changes.items
+            → AreSeen old room.below.items room.seen.looks.items room.seen.order.items → Stand self.new.states self.new.family new → AreWhole old new result.changes.items }
         ensures freed { (all : Numbered) → StandForAll self.new.states all → (buffer : ℕ) (is : Bool) → IsAny (shows_at buffer) all is
             → count_by (λ n. n == buffer) result.freed.items ≡ cond (is_among (numbers_of (map buffer_of room.shown.items)) buffer && not is) 1 0 }
         ensures shown { result.shown.items ≡ room.shown.items }
@@ -307,6 +322,7 @@ impl<A: Allocator + Copy> Surfaces<A> {
             &mut changes,
         );
         add_freed(&self.states, &room.shown, &mut freed);
+        self.mark_all(&room.seen, &mut changes);
         Applied {
             changes,
             freed,

@@ -11,6 +11,7 @@ use Rattle.wl_surface.specs.Tree.{is_committed}
 use Rattle.wl_surface.proofs.Committing.{commit-held, commit-now, committed-held, committed-now, if-ok, told-held, told-now}
 use Rattle.wl_surface.proofs.Refusing.{on-ok}
 use Rattle.wl_surface.proofs.Showing.{shown-such}
+use Rattle.wl_surface.specs.Whole.{AreWhole}
 use Rattle.wl_surface.proofs.surfaces.Surfaces.commit.Goals as goal
 
 at-yes : (b : Bool) (P Q : Type 0) → b ≡ true → P → MatchBool b P Q
@@ -89,3 +90,12 @@ returns-then-behaves_synchronised-clause-cause g c = λ all stand.
 pub returns-clause-cause : goal.returns-clause-cause
 returns-clause-cause g c = λ all stand.
     at-yes (is_whole_at (surface_at c.args.surface all)) _ _ (sym (c.is_whole.ensures (numbered all) stand.surfaces) ∙ c.if-not-is_whole.false) c.commit_now.ensures.cause
+
+pub returns-then-behaves_synchronised-clause-whole : goal.returns-then-behaves_synchronised-clause-whole
+returns-then-behaves_synchronised-clause-whole g c = if-ok c.hold.result c.hold.ensures.changes (λ told none all stand. subst (AreWhole all _) (sym none) tt)
+
+pub returns-clause-whole : goal.returns-clause-whole
+returns-clause-whole g c = if-ok c.commit_now.result c.commit_now.ensures.whole (λ told whole all stand.
+    let v = c.args.self.now in
+    subst (λ (a : Surfaces). AreWhole all a told.changes.items)
+    (sym (commit-now v.states v.family all c.args.surface c.behaves_synchronised.result c.behaves_synchronised.ensures stand c.if-behaves_synchronised.false)) (whole all stand))

@@ -9,6 +9,7 @@ use Rattle.wl_surface.proofs.Applying.{descend, tree-told}
 use Rattle.wl_surface.proofs.Committing.{held, mid-stands, mid-those, now-freed, now-numbered, now-stands, numbered-held}
 use Rattle.wl_surface.proofs.Showing.{are-shown}
 use Rattle.wl_surface.proofs.TreeShown.{among-shown}
+use Rattle.wl_surface.specs.Seen.{AreOf}
 use Rattle.wl_surface.proofs.surfaces.Surfaces.commit_now.Goals as goal
 
 pub returns-clause-ok : goal.returns-clause-ok
@@ -82,3 +83,19 @@ returns-clause-shown g c = λ all stand.
     rw c.apply_tree.ensures.shown
     (are-shown c.in_ok-room.room.below.items (descends_from 16 all c.args.surface) all c.in_ok-room.room.shown.items
     (descend v.states v.states v.family v.family all c.args.surface c.in_ok-room.room.below.items stand c.in_ok-room.ensures.those) (c.in_ok-room.ensures.shown (numbered all) stand.surfaces))
+
+pub returns-clause-whole : goal.returns-clause-whole
+returns-clause-whole g c = λ all stand.
+    let v = c.args.self.now in
+    let family = ap (λ (v : SurfacesView). v.family) c.self.view_is in
+    let stacks = rw family at c.hold-2.ensures.stacks in
+    let places = rw family at c.hold-2.ensures.places in
+    let links = rw family at c.hold-2.ensures.links in
+    let states = ap (λ (v : SurfacesView). v.states) c.self.view_is in
+    let changes = rw states at c.in_ok-hold.ensures.ok in
+    let new = c.apply_tree.new.self in
+    let mid = mid-stands v.states c.hold.new.self new.states v.family c.hold-2.new.self new.family all c.args.surface c.in_ok-room.room.below.items
+    changes stacks places links c.in_ok-room.ensures.those stand in
+    c.apply_tree.ensures.whole all _ (numbered (held c.args.surface all)) mid.surfaces c.in_ok-room.ensures.once
+    (subst (AreOf c.in_ok-room.room.below.items) (sym (c.in_ok-room.ensures.told ∙ c.new.ensures.items)) tt)
+    (c.in_ok-room.ensures.seen all stand) (returns-clause-ok g c all stand)

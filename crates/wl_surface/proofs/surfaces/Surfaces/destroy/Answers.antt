@@ -10,6 +10,10 @@ use Rattle.wl_surface.proofs.Applying.{descend}
 use Rattle.wl_surface.proofs.Destroying.{destroyed-freed, destroyed-stands, destroyed-told, numbered-destroyed}
 use Rattle.wl_surface.proofs.Showing.{are-shown}
 use Rattle.wl_surface.proofs.TreeShown.{among-shown}
+use Rattle.wl_surface.specs.Seen.{AreOf}
+use Rattle.wl_surface.specs.Surfaces.{surface_at}
+use Rattle.wl_surface.proofs.Applying.{itself-below}
+use Rattle.wl_surface.proofs.Marked.{of-gone}
 use Rattle.wl_surface.proofs.surfaces.Surfaces.destroy.Goals as goal
 
 pub returns-clause-ok : goal.returns-clause-ok
@@ -71,3 +75,15 @@ returns-clause-shown g c = λ all stand.
     rw c.apply_tree-applied.ensures.shown
     (are-shown c.in_ok-room.room.below.items (descends_from 16 all c.args.surface) all c.in_ok-room.room.shown.items
     (descend v.states v.states v.family v.family all c.args.surface c.in_ok-room.room.below.items stand c.in_ok-room.ensures.those) (c.in_ok-room.ensures.shown (numbered all) stand.surfaces))
+
+pub returns-clause-whole : goal.returns-clause-whole
+returns-clause-whole g c = λ all stand.
+    let v = c.args.self.now in
+    let states = ap (λ (v : SurfacesView). v.states) c.self.view_is in
+    let gone = rw states at c.in_ok-callbacks.ensures.ok in
+    let below = c.in_ok-room.room.below.items in
+    c.apply_tree-applied.ensures.whole all _ (with_at c.args.surface None (numbered all)) (gone (numbered all) stand.surfaces) c.in_ok-room.ensures.once
+    (subst (AreOf below) (sym c.in_ok-room.ensures.told)
+    (of-gone below c.args.surface (surface_at c.args.surface all) c.in_ok-own.own.items
+    (itself-below v.states v.states v.family v.family all c.args.surface below stand c.in_ok-room.ensures.those) (c.in_ok-own.ensures (numbered all) stand.surfaces)))
+    (c.in_ok-room.ensures.seen all stand) (returns-clause-ok g c all stand)

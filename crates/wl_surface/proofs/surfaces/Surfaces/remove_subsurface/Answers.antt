@@ -11,6 +11,7 @@ use Rattle.wl_surface.proofs.Applying.{descend, numbered-so, tree-freed, tree-st
 use Rattle.wl_surface.proofs.Ending.{ended-is, ended-stands, ended-those, never-none}
 use Rattle.wl_surface.proofs.Showing.{are-shown}
 use Rattle.wl_surface.proofs.TreeShown.{among-shown}
+use Rattle.wl_surface.specs.Seen.{AreOf}
 use Rattle.wl_surface.proofs.surfaces.Surfaces.remove_subsurface.Goals as goal
 
 pub returns-then-is_none-clause-ok : goal.returns-then-is_none-clause-ok
@@ -119,4 +120,16 @@ returns-clause-shown g c = λ all number link is stand.
 
 pub returns-then-is_none-clause-shown : goal.returns-then-is_none-clause-shown
 returns-then-is_none-clause-shown g c = λ all number link is stand.
+    never-none c.args.self.now.states c.args.self.now.family all number c.args.child link c.link.result is stand c.link.ensures c.if-is_none.ensures
+
+pub returns-clause-whole : goal.returns-clause-whole
+returns-clause-whole g c = λ all number link is stand.
+    let states = ap (λ (v : SurfacesView). v.states) c.self.view_is in
+    let whole = rw states at c.apply_tree.ensures.whole in
+    whole all _ (numbered all) stand.surfaces c.in_ok-room.ensures.once
+    (subst (AreOf c.in_ok-room.room.below.items) (sym (c.in_ok-room.ensures.told ∙ c.new.ensures.items)) tt)
+    (c.in_ok-room.ensures.seen all stand) (returns-clause-ok g c all number link is stand)
+
+pub returns-then-is_none-clause-whole : goal.returns-then-is_none-clause-whole
+returns-then-is_none-clause-whole g c = λ all number link is stand.
     never-none c.args.self.now.states c.args.self.now.family all number c.args.child link c.link.result is stand c.link.ensures c.if-is_none.ensures

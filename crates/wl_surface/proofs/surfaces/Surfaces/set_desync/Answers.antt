@@ -12,6 +12,8 @@ use Rattle.wl_surface.proofs.Applying.{descend, nothing-freed, numbered-so, tree
 use Rattle.wl_surface.proofs.Ending.{desynchronised-is, goes, never-none, released-so, stays-before, stays-now, stays-so, unheld-stands, unheld-those, unreleased-so}
 use Rattle.wl_surface.proofs.Showing.{are-shown, none-shown}
 use Rattle.wl_surface.proofs.TreeShown.{among-shown}
+use Rattle.wl_surface.specs.Seen.{AreOf}
+use Rattle.wl_surface.specs.Whole.{AreWhole}
 use Rattle.wl_surface.proofs.surfaces.Surfaces.set_desync.Goals as goal
 use Rattle.wl_surface.proofs.surfaces.Surfaces.set_desync.Goals.{else-was_synchronised-via-then-was_synchronised+else-not-is_synchronised, else-was_synchronised-via-else-was_synchronised}
 
@@ -249,3 +251,18 @@ returns-clause-shown g c = λ all number link is stand.
     links places stacks c.in_ok-room.ensures.those
     c.behaves_synchronised-was_synchronised.result c.behaves_synchronised-is_synchronised.result c.behaves_synchronised-was_synchronised.ensures c.behaves_synchronised-is_synchronised.ensures
     stays) c.nothing-2.ensures.shown
+
+pub returns-then-is_none-clause-whole : goal.returns-then-is_none-clause-whole
+returns-then-is_none-clause-whole g c = λ all number link is stand.
+    never-none c.args.self.now.states c.args.self.now.family all number c.args.child link c.link.result is stand c.link.ensures c.if-is_none.ensures
+
+pub returns-then-not-is_synchronised-clause-whole : goal.returns-then-not-is_synchronised-clause-whole
+returns-then-not-is_synchronised-clause-whole g c = λ all number link is stand.
+    let states = ap (λ (v : SurfacesView). v.states) c.self.view_is in
+    let whole = rw states at c.apply_tree.ensures.whole in
+    whole all _ (numbered all) stand.surfaces c.in_ok-room.ensures.once
+    (subst (AreOf c.in_ok-room.room.below.items) (sym (c.in_ok-room.ensures.told ∙ c.new.ensures.items)) tt)
+    (c.in_ok-room.ensures.seen all stand) (returns-then-not-is_synchronised-clause-ok g c all number link is stand)
+
+pub returns-clause-whole : goal.returns-clause-whole
+returns-clause-whole g c = λ all number link is stand. subst (AreWhole all _) (sym c.nothing-2.ensures.changes) tt
