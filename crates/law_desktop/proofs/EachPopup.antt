@@ -12,8 +12,8 @@ use Rattle.wl_shell.specs.Shell.{Configure, awaiting, latest_placement, up_to}
 use Rattle.spec_desktop.specs.Ask.{Ask, GetXdgSurface, DestroyXdgSurface, GetToplevel, Acknowledge, ConfigureAgain}
 use Rattle.spec_desktop.specs.Changing.{Placing, changed_for, drawing, effect_placing, grab_allowed, grabbed, has_focus, in_rising_order, is_configure, mode_set, placement_now, popup_given_to, tree_committed}
 use Rattle.spec_desktop.specs.Changing.{popup_repositioned}
-use Rattle.spec_desktop.specs.Demand.{Demand, Asks, EndSurface, AskFrame, CommitTree, GetSubsurface, EndSubsurface, SetMode, GetPointer, MakeCursor, Reposition}
-use Rattle.spec_desktop.specs.Demand.{GetPopup, Grab, EndPopup, EndToplevel, Move}
+use Rattle.spec_desktop.specs.Demand.{Demand, Asks, CommitTree, SetMode, GetPointer, Reposition}
+use Rattle.spec_desktop.specs.Demand.{GetPopup, Grab, EndPopup, EndToplevel}
 use Rattle.spec_desktop.specs.Demanding.{effect_of_commit}
 use Rattle.spec_desktop.specs.Desktop.{Desktop, Resident}
 use Rattle.law_desktop.specs.InOrder.{may_dismiss}
@@ -187,16 +187,11 @@ module _ (P : ℕ → Popup → Type 0) where
         → ((xdg serial : ℕ) → grab_allowed c xdg serial r d ≡ true → (id : ℕ) (p : Popup) → P id p → P id (with_grab p))
         → (may_dismiss demand ≡ true → KeptDismissed) → OfEach P r.owned.shell → OfEach P (changed_for c demand r d).owned.shell
     each-stays c (Asks ask) r d new grabs gone of = of-asked ask r of
-    each-stays c (EndSurface id) r d new grabs gone of = of
-    each-stays c (AskFrame id version surface) r d new grabs gone of = of
     each-stays c (CommitTree surface) r d new grabs gone of =
         of-effect (placement_now c r d) surface (effect_of_commit r surface) (xdg_of surface r.owned.shell) (tree_committed surface r) of
-    each-stays c (GetSubsurface id version child parent) r d new grabs gone of = of
-    each-stays c (EndSubsurface id) r d new grabs gone of = of
     each-stays c (SetMode link synchronised) r d new grabs gone of = of-mode link synchronised r of
     each-stays c (GetPointer id version) r d new grabs gone of =
         of-drawn (has_focus c d.pointer.focus) (record r { pointers = in_rising_order id r.pointers }) of
-    each-stays c (MakeCursor surface) r d new grabs gone of = of
     each-stays c (GetPopup id version xdg parent p) r d new grabs gone of = of-popup id xdg parent p (xdg_at xdg r.owned.shell) r (new id parent p) of
     each-stays c (Reposition xdg token p) r d new grabs gone of = of-repositioned (placement_now c r d) p (popup_at xdg r.owned.shell) r of
     each-stays c (Grab xdg serial) r d new grabs gone of = of-grabbed (gone refl) (grab_allowed c xdg serial r d) xdg r (grabs xdg serial) of
@@ -204,4 +199,4 @@ module _ (P : ℕ → Popup → Type 0) where
     each-stays c (EndToplevel id xdg top) r d new grabs gone of =
         of-change xdg without_role (λ x k. tt) (orphaning xdg (dismissing (λ p. is_parent_of xdg p.popup) r.owned.shell))
         (of-orphaning xdg (dismissing (λ p. is_parent_of xdg p.popup) r.owned.shell) (of-dismissing (gone refl) (λ p. is_parent_of xdg p.popup) r.owned.shell of))
-    each-stays c (Move surface serial) r d new grabs gone of = of
+    each-stays c demand r d new grabs gone of = of

@@ -46,9 +46,6 @@ none-passes p g (x ∷ xs) each = ap (λ b. cond b (Some (g x)) (find p (map g x
 
 kept-renamed : (f : ℕ → ℕ) (k : Option Kept) (x : Option XdgSurface) (h : Option History) → IsKept k x h → IsKept k (option_map (renamed_xdg f) x) h
 kept-renamed f None None h is = tt
-kept-renamed f None (Some x) h is = absurd is
-kept-renamed f (Some k) None h is = absurd is
-kept-renamed f (Some k) (Some x) None is = absurd is
 kept-renamed f (Some k) (Some x) (Some h) is = record {
   id = is.id;
   base = is.base;
@@ -59,15 +56,14 @@ kept-renamed f (Some k) (Some x) (Some h) is = record {
   since_le = is.since_le;
   cut_le = is.cut_le;
 }
+kept-renamed f k x h is = absurd is
 
 -- where there is an xdg_surface, one is kept, and its surface is there
 kept-some : (k : Option Kept) (x : Option XdgSurface) (s : Option Surface) → IsKept k x (option_map (λ (s : Surface). s.history) s) → is_some x ≡ true
     → (is_some k ≡ true) × (is_some s ≡ true)
 kept-some None None s is there = absurd (true≢false (sym there))
-kept-some None (Some x) s is there = absurd is
-kept-some (Some k) None s is there = absurd is
-kept-some (Some k) (Some x) None is there = absurd is
 kept-some (Some k) (Some x) (Some s) is there = (refl, refl)
+kept-some k x s is there = absurd is
 
 module _ (names : Names) (slots : Slots) (tied : Tied) (kept : ℕ → Option Kept) (o : Owned) (is : IsOwned names slots tied kept o) where
   abbrev f : ℕ → ℕ

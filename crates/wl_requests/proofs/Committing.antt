@@ -10,10 +10,10 @@ use Rattle.wl_links.specs.Family.{Tied}
 use Rattle.wl_surface.specs.Slots.{Slots}
 use Rattle.wl_shell.specs.Kept.{Kept, commit_answer, kind_toplevel, toplevel_in}
 use Rattle.wl_shell.specs.Popups.{is_toplevel, is_toplevel_kind}
-use Rattle.wl_shell.specs.Shell.{Effect, Stays, Unconfigured, Configures, Maps, Unmaps, IsPopup, Kind, RoleObject, Toplevel, XdgSurface, xdg_of}
+use Rattle.wl_shell.specs.Shell.{Effect, Stays, Configures, Maps, Unmaps, IsPopup, Kind, RoleObject, Toplevel, XdgSurface, xdg_of}
 use Rattle.wl_shell.specs.declared.acts.Placed.{Placed}
 use Rattle.wl_shell.specs.declared.acts.ShellAct.{ShellAct}
-use Rattle.wl_shell.specs.declared.acts.ShellAct.TheVariants.{Configure, Map, Unmap, Place, Nothing}
+use Rattle.wl_shell.specs.declared.acts.ShellAct.TheVariants.{Configure, Map, Unmap}
 use Rattle.spec_desktop.specs.Changing.{Placing, effect_placing}
 use Rattle.spec_desktop.specs.Demand.{Demand}
 use Rattle.spec_desktop.specs.Demanding.{if_whole}
@@ -67,8 +67,7 @@ module _ (names : Names) (slots : Slots) (tied : Tied) (kept : ℕ → Option Ke
       ap (λ (o : Option XdgSurface). (effect_placing where_to id Configures o after).peer) xdg.3
   commit-peer where_to shows bounds at Map after answer = mapped-peer where_to id (xdg_of id r.owned.shell) after
   commit-peer where_to shows bounds at Unmap after answer = unmapped-peer where_to id (xdg_of id r.owned.shell) after
-  commit-peer where_to shows bounds at (Place placed) after answer = still-peer where_to id (xdg_of id r.owned.shell) after
-  commit-peer where_to shows bounds at Nothing after answer = still-peer where_to id (xdg_of id r.owned.shell) after
+  commit-peer where_to shows bounds at act after answer = still-peer where_to id (xdg_of id r.owned.shell) after
 
   -- whether its xdg_surface has a toplevel is read of what is kept
   pub toplevel-read : is_some (option_and_then (λ k. toplevel_in k.role) (kept number)) ≡ is_toplevel (xdg_of id r.owned.shell)
@@ -86,42 +85,27 @@ module _ (where_to : Placing) (surface : ℕ) where
   pub effect-surfaces : (effect : Effect) (o : Option XdgSurface) (r : Resident) → (effect_placing where_to surface effect o r).owned.surfaces ≡ r.owned.surfaces
   effect-surfaces effect None r = refl
   effect-surfaces Stays (Some x) r = refl
-  effect-surfaces Unconfigured (Some x) r = refl
-  effect-surfaces Configures (Some x) r = refl
-  effect-surfaces Maps (Some x) r = refl
-  effect-surfaces Unmaps (Some x) r = refl
+  effect-surfaces effect o r = refl
 
   pub effect-callbacks : (effect : Effect) (o : Option XdgSurface) (r : Resident) → (effect_placing where_to surface effect o r).callbacks ≡ r.callbacks
   effect-callbacks effect None r = refl
   effect-callbacks Stays (Some x) r = refl
-  effect-callbacks Unconfigured (Some x) r = refl
-  effect-callbacks Configures (Some x) r = refl
-  effect-callbacks Maps (Some x) r = refl
-  effect-callbacks Unmaps (Some x) r = refl
+  effect-callbacks effect o r = refl
 
   pub effect-requests : (effect : Effect) (o : Option XdgSurface) (r : Resident) → (effect_placing where_to surface effect o r).peer.requests ≡ r.peer.requests
   effect-requests effect None r = refl
   effect-requests Stays (Some x) r = refl
-  effect-requests Unconfigured (Some x) r = refl
-  effect-requests Configures (Some x) r = refl
-  effect-requests Maps (Some x) r = refl
-  effect-requests Unmaps (Some x) r = refl
+  effect-requests effect o r = refl
 
   pub effect-buffers : (effect : Effect) (o : Option XdgSurface) (r : Resident) → (effect_placing where_to surface effect o r).peer.buffers ≡ r.peer.buffers
   effect-buffers effect None r = refl
   effect-buffers Stays (Some x) r = refl
-  effect-buffers Unconfigured (Some x) r = refl
-  effect-buffers Configures (Some x) r = refl
-  effect-buffers Maps (Some x) r = refl
-  effect-buffers Unmaps (Some x) r = refl
+  effect-buffers effect o r = refl
 
   pub effect-subsurfaces : (effect : Effect) (o : Option XdgSurface) (r : Resident) → (effect_placing where_to surface effect o r).subsurfaces ≡ r.subsurfaces
   effect-subsurfaces effect None r = refl
   effect-subsurfaces Stays (Some x) r = refl
-  effect-subsurfaces Unconfigured (Some x) r = refl
-  effect-subsurfaces Configures (Some x) r = refl
-  effect-subsurfaces Maps (Some x) r = refl
-  effect-subsurfaces Unmaps (Some x) r = refl
+  effect-subsurfaces effect o r = refl
 
 -- ---- what is told of a surface, by what is kept of its xdg_surface
 

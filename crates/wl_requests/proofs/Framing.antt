@@ -116,10 +116,8 @@ by-number numbers c other = at (same_as c other) refl
 
 or-and : (a b c : Bool) → ((a && c) || (b && c)) ≡ ((a || b) && c)
 or-and true true true = refl
-or-and true true false = refl
 or-and true false true = refl
-or-and true false false = refl
-or-and false b c = refl
+or-and a b c = refl
 
 all-by : (numbers : List ℕ) (c : Callback) (cs : List Callback) → list_any (λ x. same_as c x && is_in numbers x) cs ≡ (list_any (same_as c) cs && is_in numbers c)
 all-by numbers c [] = refl

@@ -7,7 +7,7 @@ use Rattle.wl_wire.specs.declared.header.Split.{Split}
 use Rattle.wl_wire.specs.declared.header.Split.TheVariants.{Message as Whole}
 use Rattle.wl_wire.specs.Wire.{split_of}
 use Rattle.wl_proto.specs.declared.interface.Interface.{Interface}
-use Rattle.wl_proto.specs.declared.interface.Interface.TheVariants.{WlDisplay, WlRegistry, WlRegion, WlSurface, WlShm, WlShmPool, WlBuffer, XdgPopup, XdgPositioner, XdgSurface, XdgToplevel}
+use Rattle.wl_proto.specs.declared.interface.Interface.TheVariants.{WlDisplay, WlRegistry, WlRegion, WlSurface, WlShm, WlShmPool, WlBuffer, XdgPositioner, XdgSurface}
 use Rattle.wl_proto.specs.Messages.{Message, request_message}
 use Rattle.wl_client.specs.Agreement.{IsPeer}
 use Rattle.spec_desktop.specs.Judgement.{action_of, judge as judge_own}
@@ -54,25 +54,16 @@ passes-own v size judged own = (own.object, own.version, size, own.target, reque
 seen-surface : (i : Interface) (version target : ℕ) → option_and_then (target_as WlSurface) (of_surface (Some (record { interface = i; version = version; target = target }))) ≡ target_as WlSurface
     (record { interface = i; version = version; target = target })
 seen-surface WlSurface version target = refl
-seen-surface XdgSurface version target = refl
-seen-surface XdgToplevel version target = refl
-seen-surface XdgPopup version target = refl
 seen-surface i version target = refl
 
 seen-xdg : (i : Interface) (version target : ℕ) → option_and_then (target_as XdgSurface) (of_surface (Some (record { interface = i; version = version; target = target }))) ≡ target_as XdgSurface
     (record { interface = i; version = version; target = target })
 seen-xdg WlSurface version target = refl
-seen-xdg XdgSurface version target = refl
-seen-xdg XdgToplevel version target = refl
-seen-xdg XdgPopup version target = refl
 seen-xdg i version target = refl
 
 seen-role : (i : Interface) (version target : ℕ) → option_and_then role_target (of_surface (Some (record { interface = i; version = version; target = target }))) ≡ role_target
     (record { interface = i; version = version; target = target })
 seen-role WlSurface version target = refl
-seen-role XdgSurface version target = refl
-seen-role XdgToplevel version target = refl
-seen-role XdgPopup version target = refl
 seen-role i version target = refl
 
 -- what objects name that are seen so

@@ -3,7 +3,7 @@ use Rattle.std.proofs.Common.{◌≡◌, ℕ, List, ap, Bool, true, false, Optio
 use Rattle.std.specs.Prelude.{◌==◌, ◌||◌, ◌-◌, if◌then◌else◌, is_some, Ok, Err, take, drop, ◌&&◌}
 use Rattle.wl_wire.specs.Wire.{split_of}
 use Rattle.wl_wire.specs.declared.header.Split.{Split}
-use Rattle.wl_wire.specs.declared.header.Split.TheVariants.{Message as Whole, More, Bad}
+use Rattle.wl_wire.specs.declared.header.Split.TheVariants.{Message as Whole}
 use Rattle.wl_proto.specs.declared.interface.Interface.TheVariants.{WlSurface, XdgToplevel}
 use Rattle.wl_proto.specs.Messages.{Message, wl_compositor_request, wl_pointer_request, wl_seat_request, wl_subcompositor_request, wl_subsurface_request, wl_surface_request, xdg_surface_request}
 use Rattle.wl_proto.specs.Messages.{xdg_popup_request, xdg_wm_base_request}
@@ -39,7 +39,7 @@ use Rattle.wl_surface.specs.Request.{Member, PlaceAbove, PlaceBelow, Request as 
 use Rattle.wl_surface.specs.Surfaces.{Link}
 use Rattle.wl_surface.specs.Trees.{is_bad_parent, is_too_deep}
 use Rattle.wl_shell.specs.Kept.{kept_of}
-use Rattle.wl_shell.specs.Shell.{Effect, Configures, Maps, Stays, Unconfigured, Unmaps, XdgSurface as Xdg, is_full, xdg_at, xdg_of, xdg_with}
+use Rattle.wl_shell.specs.Shell.{Effect, Configures, Unconfigured, XdgSurface as Xdg, is_full, xdg_at, xdg_of, xdg_with}
 use Rattle.law_desktop.specs.Owning.{targets_in}
 use Rattle.law_desktop.specs.RoleNames.{names_of}
 use Rattle.law_desktop.proofs.Keeping.OwningXdg.{toplevel-named}
@@ -91,12 +91,9 @@ module _ (numbers : ById ℕ) where
 
   -- a surface is committed, if it may be
   committed-nothing : (o : Option Xdg) (object : ℕ) (effect : Effect) → AsksPointerSo numbers (committed_by o object effect) Nothing
-  committed-nothing None object effect = refl
   committed-nothing (Some x) object Unconfigured = tt
   committed-nothing (Some x) object Configures = if-nothing (is_full x.configures) past_limit (Ok (CommitTree object)) tt refl
-  committed-nothing (Some x) object Stays = refl
-  committed-nothing (Some x) object Maps = refl
-  committed-nothing (Some x) object Unmaps = refl
+  committed-nothing o object effect = refl
 
   ended-nothing : (object : ℕ) (b : Bool) (refused : Refusal) → AsksPointerSo numbers (if b then Err refused else Ok (EndSurface object)) Nothing
   ended-nothing object true refused = tt
@@ -172,11 +169,9 @@ module _ (numbers : ById ℕ) where
   linked-nothing : (r : Resident) (object : ℕ) (o : Option Link) (request : WlSubsurfaceRequest) → AsksPointerSo numbers (demand_by_link r object o request) Nothing
   linked-nothing r object o subsurface.Destroy = refl
   linked-nothing r object None request = refl
-  linked-nothing r object (Some l) (subsurface.SetPosition x y) = refl
   linked-nothing r object (Some l) (subsurface.PlaceAbove sibling) = placed-nothing object l.parent (PlaceAbove l.number) (beside r.owned.surfaces l sibling)
   linked-nothing r object (Some l) (subsurface.PlaceBelow sibling) = placed-nothing object l.parent (PlaceBelow l.number) (beside r.owned.surfaces l sibling)
-  linked-nothing r object (Some l) subsurface.SetSync = refl
-  linked-nothing r object (Some l) subsurface.SetDesync = refl
+  linked-nothing r object o request = refl
 
   subsurface-nothing : (r : Resident) (object version : ℕ) (request : WlSubsurfaceRequest) → AsksPointerSo numbers (demand_of r object version (wl_subsurface_request request)) Nothing
   subsurface-nothing r object version subsurface.Destroy = linked-nothing r object (link_of_subsurface object r) subsurface.Destroy
@@ -200,21 +195,18 @@ module _ (numbers : ById ℕ) where
       (if-nothing (is_no_cursor (role_of r surface) || is_some (xdg_of surface r.owned.shell)) (refuses object HasAnotherRole) _ tt refl)
 
   base-nothing : (r : Resident) (object version : ℕ) (request : XdgWmBaseRequest) → AsksPointerSo numbers (demand_of r object version (xdg_wm_base_request request)) Nothing
-  base-nothing r object version base.Destroy = alone _
   base-nothing r object version (base.CreatePositioner id) = refl
-  base-nothing r object version (base.GetXdgSurface id surface) = alone _
   base-nothing r object version (base.Pong serial) = refl
+  base-nothing r object version request = alone _
 
   seat-asks : (r : Resident) (object version target : ℕ) (request : WlSeatRequest)
       → AsksPointerSo numbers (demand_of r object version (wl_seat_request request)) (pointer_asked_by target (kind.Seat request))
   seat-asks r object version target (seat.GetPointer id) = refl
-  seat-asks r object version target (seat.GetKeyboard id) = tt
-  seat-asks r object version target (seat.GetTouch id) = tt
+  seat-asks r object version target request = tt
 
   -- a toplevel's requests, where its surface has this number
   toplevel-asks : (object target : ℕ) (x : Xdg) (request : ToplevelRequest) → numbers x.surface ≡ Some target
       → AsksPointerSo numbers (toplevel_asked object (Some x) request) (pointer_asked_by target (kind.Toplevel (asked_by request)))
-  toplevel-asks object target x toplevel.Destroy named = refl
   toplevel-asks object target x (toplevel.Move by serial) named = (target, named, refl)
   toplevel-asks object target x toplevel.SetMaximized named = alone (state_asked (Some x))
   toplevel-asks object target x toplevel.UnsetMaximized named = alone (state_asked (Some x))
@@ -276,8 +268,7 @@ module _ {A : Type 0} (v : Kept A) (r : Resident) (is : IsResident v r) where
       let judged = judged-refused r.peer.objects r.peer.held (λ version m. demand_of r object version m) opcode (take (size - 8) (drop 8 r.peer.rest)) (r.peer.objects object) refusal
       (passing-peer v.client r.peer object opcode size (Err refusal) is.peer why) in
       subst (λ (j : Result Demand Refusal). AsksPointerSo names j Nothing) (sym judged) tt
-  refused-asks Bad refusal why = tt
-  refused-asks More refusal why = tt
+  refused-asks s refusal why = tt
 
   first-refused-asks : (refusal : Refusal) → IsAsked v.client (asks.Refused refusal) → AsksPointerFirst names (split_of r.peer.rest) r Nothing
   first-refused-asks refusal why =
@@ -315,7 +306,5 @@ module _ {A : Type 0} (v : Kept A) (r : Resident) (is : IsResident v r) where
 -- only wl_seat.get_pointer asks for one
 pub seat-asked : (target : ℕ) (k : Kind) (id : ℕ) → pointer_asked_by target k ≡ NewPointer id → k ≡ kind.Seat (seat.GetPointer id)
 seat-asked target (kind.Seat (seat.GetPointer other)) id e = cc
-seat-asked target (kind.Seat (seat.GetKeyboard other)) id e = absurd (cc)
-seat-asked target (kind.Seat (seat.GetTouch other)) id e = absurd (cc)
 seat-asked target (kind.Toplevel (MoveAsked serial)) id e = absurd (cc)
 seat-asked target k id e = absurd (cc)

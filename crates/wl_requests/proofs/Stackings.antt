@@ -176,11 +176,9 @@ placed-stays old r object parent request (Some member) = refl
 linked-stays : {A : Type 0} (old : Kept A) (r : Resident) (object : ℕ) (o : Option Link) (request : WlSubsurfaceRequest) → StacksSo old r (demand_by_link r object o request) Stays
 linked-stays old r object o subsurface.Destroy = refl
 linked-stays old r object None request = refl
-linked-stays old r object (Some l) (subsurface.SetPosition x y) = refl
 linked-stays old r object (Some l) (subsurface.PlaceAbove sibling) = placed-stays old r object l.parent (PlaceAbove l.number) (beside r.owned.surfaces l sibling)
 linked-stays old r object (Some l) (subsurface.PlaceBelow sibling) = placed-stays old r object l.parent (PlaceBelow l.number) (beside r.owned.surfaces l sibling)
-linked-stays old r object (Some l) subsurface.SetSync = refl
-linked-stays old r object (Some l) subsurface.SetDesync = refl
+linked-stays old r object o request = refl
 
 pub subsurface-stays : {A : Type 0} (old : Kept A) (r : Resident) (object version : ℕ) (request : WlSubsurfaceRequest)
     → StacksSo old r (demand_of r object version (wl_subsurface_request request)) Stays
@@ -210,7 +208,6 @@ pointer-stays old r object version (pointer.SetCursor serial surface x y) =
 -- a request of an xdg_wm_base
 pub base-stays : {A : Type 0} (old : Kept A) (r : Resident) (object version : ℕ) (request : XdgWmBaseRequest)
     → StacksSo old r (demand_of r object version (xdg_wm_base_request request)) Stays
-base-stays old r object version base.Destroy = asks-stay old r _
 base-stays old r object version (base.CreatePositioner id) = refl
-base-stays old r object version (base.GetXdgSurface id surface) = asks-stay old r _
 base-stays old r object version (base.Pong serial) = refl
+base-stays old r object version request = asks-stay old r _

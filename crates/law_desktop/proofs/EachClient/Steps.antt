@@ -19,7 +19,7 @@ use Rattle.spec_desktop.specs.Pointer.{first_pointer}
 use Rattle.spec_desktop.specs.Stacking.{Standing, is_of}
 use Rattle.spec_desktop.specs.Windows.{Window}
 use Rattle.spec_desktop.specs.declared.answers.Done.{Done}
-use Rattle.spec_desktop.specs.Act.{Act, IsClosed, IsSent, IsStored, Connect, Feed, Store, Leave, Tick, Send, Close, Motion, Button, closed_by, lowest}
+use Rattle.spec_desktop.specs.Act.{Act, IsClosed, IsSent, IsStored, Connect, Feed, Store, Leave, Tick, Send, Close, closed_by, lowest}
 use Rattle.spec_desktop.specs.Changing.{changed_for, stacked_by, stacked_for}
 use Rattle.spec_desktop.specs.Demand.{Demand, CommitTree, EndToplevel}
 use Rattle.spec_desktop.specs.Demanding.{effect_of_commit, judge_all}
@@ -122,9 +122,7 @@ done-still c demand r d still = kept-still (stacked_for c demand r (all_windows 
 
 by-others : (effect : Effect) (b : Bool) (c other id : ℕ) (d : Desktop) → c ≢ other → toplevels_of other (stacked_by effect b c id d) ≡ toplevels_of other d
 by-others Maps true c other id d differ = on_top d.mappings c id other differ d.standing
-by-others Maps false c other id d differ = refl
 by-others Unmaps true c other id d differ = left_out (λ s. not (is_of c id s)) other (one_surface c other id differ) d.standing
-by-others Unmaps false c other id d differ = refl
 by-others effect b c other id d differ = refl
 
 -- the toplevels of the others stand as before
@@ -342,5 +340,4 @@ module _ (Absent : List Standing → Type 0) (By : Option Cause → Resident →
     happens-keeps (Tick time) done d e alone all h = frames time 32 1 d e all (told-shows time d e all.pointer h.1)
     happens-keeps (Send c n) done d e alone all h = changes-at (IsSent n) (sent-keeps n) _ done c (client_at c d) d e refl all h
     happens-keeps (Close c) done d e alone all h = changes-at IsClosed closed-keeps _ done c (client_at c d) d e refl all h
-    happens-keeps (Motion time x y) done d e alone all h = absurd alone
-    happens-keeps (Button time button pressed) done d e alone all h = absurd alone
+    happens-keeps act done d e alone all h = absurd alone

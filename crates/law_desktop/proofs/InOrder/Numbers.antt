@@ -14,8 +14,8 @@ use Rattle.wl_shell.specs.Shell.{Configure, awaiting, up_to}
 use Rattle.spec_desktop.specs.Ask.{Ask, GetXdgSurface, DestroyXdgSurface, GetToplevel, Acknowledge, ConfigureAgain}
 use Rattle.spec_desktop.specs.Changing.{Placing, changed_for, drawing, effect_placing, grab_allowed, grabbed, has_focus, in_rising_order, is_configure, mode_set, placement_now, popup_given_to, tree_committed}
 use Rattle.spec_desktop.specs.Changing.{popup_repositioned}
-use Rattle.spec_desktop.specs.Demand.{Demand, Asks, EndSurface, AskFrame, CommitTree, GetSubsurface, EndSubsurface, SetMode, GetPointer, MakeCursor, Reposition}
-use Rattle.spec_desktop.specs.Demand.{GetPopup, Grab, EndPopup, EndToplevel, Move}
+use Rattle.spec_desktop.specs.Demand.{Demand, Asks, CommitTree, SetMode, GetPointer, Reposition}
+use Rattle.spec_desktop.specs.Demand.{GetPopup, Grab, EndPopup, EndToplevel}
 use Rattle.spec_desktop.specs.Demanding.{effect_of_commit}
 use Rattle.spec_desktop.specs.Desktop.{Desktop, Resident}
 use Rattle.spec_desktop.specs.Step.{asked_so_far, changed_by, toplevel_given, xdg_changed}
@@ -163,15 +163,10 @@ pub demanded-numbers :
     (c : ℕ) (demand : Demand) (r : Resident) (d : Desktop) → AreApartBy (λ id x. x.id == id) r.owned.shell → list_any (has_number r.peer.requests) r.owned.shell ≡ false
     → AreNumbered r.owned.shell → AreNumbered (changed_for c demand r d).owned.shell
 demanded-numbers c (Asks ask) r d ids none apart = apart-asked ask r apart
-demanded-numbers c (EndSurface id) r d ids none apart = apart
-demanded-numbers c (AskFrame id version surface) r d ids none apart = apart
 demanded-numbers c (CommitTree surface) r d ids none apart =
     apart-effect (placement_now c r d) surface (effect_of_commit r surface) (xdg_of surface r.owned.shell) (tree_committed surface r) apart
-demanded-numbers c (GetSubsurface id version child parent) r d ids none apart = apart
-demanded-numbers c (EndSubsurface id) r d ids none apart = apart
 demanded-numbers c (SetMode link synchronised) r d ids none apart = apart-mode link synchronised r apart
 demanded-numbers c (GetPointer id version) r d ids none apart = apart-drawn (has_focus c d.pointer.focus) (record r { pointers = in_rising_order id r.pointers }) apart
-demanded-numbers c (MakeCursor surface) r d ids none apart = apart
 demanded-numbers c (GetPopup id version xdg parent p) r d ids none apart = apart-popup id xdg parent p (xdg_at xdg r.owned.shell) r ids none refl apart
 demanded-numbers c (Reposition xdg token p) r d ids none apart = apart-repositioned (placement_now c r d) p (popup_at xdg r.owned.shell) r apart
 demanded-numbers c (Grab xdg serial) r d ids none apart = apart-grabbed (grab_allowed c xdg serial r d) xdg r apart
@@ -179,7 +174,7 @@ demanded-numbers c (EndPopup id xdg) r d ids none apart = apart-changed xdg with
 demanded-numbers c (EndToplevel id xdg top) r d ids none apart =
     apart-changed xdg without_role none-without (orphaning xdg (dismissing (λ p. is_parent_of xdg p.popup) r.owned.shell))
     (apart-orphaned xdg (dismissing (λ p. is_parent_of xdg p.popup) r.owned.shell) (apart-dismissed (λ p. is_parent_of xdg p.popup) r.owned.shell apart))
-demanded-numbers c (Move surface serial) r d ids none apart = apart
+demanded-numbers c demand r d ids none apart = apart
 
 -- ---- none is past the last request
 

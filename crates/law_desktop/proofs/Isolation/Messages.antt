@@ -44,8 +44,6 @@ becomes-left c other r q d differ =
 commit-left : (effect : Effect) (toplevel : Bool) (c other surface : ℕ) (d : Desktop) → c ≢ other → IsLeft other d (stacked_by effect toplevel c surface d)
 commit-left Maps true c other surface d differ = (refl, on_top d.mappings c surface other differ d.standing)
 commit-left Unmaps true c other surface d differ = (refl, left_out (λ s. not (is_of c surface s)) other (one_surface c other surface differ) d.standing)
-commit-left Maps false c other surface d differ = (refl, refl)
-commit-left Unmaps false c other surface d differ = (refl, refl)
 commit-left effect toplevel c other surface d differ = (refl, refl)
 
 stacked_for-left : (c other : ℕ) (demand : Demand) (r : Resident) (windows : List Window) (d : Desktop) → c ≢ other → IsLeft other d (stacked_for c demand r windows d)

@@ -36,7 +36,7 @@ use Rattle.wl_surface.specs.Surfaces.{Link}
 use Rattle.wl_surface.specs.Trees.{is_bad_parent, is_too_deep}
 use Rattle.wl_shell.specs.Popups.{Popped, is_parent, is_popup_mapped, popup_at, is_configured}
 use Rattle.wl_shell.specs.Positioner.{is_complete, Positioner}
-use Rattle.wl_shell.specs.Shell.{Effect, Stays, Unconfigured, Configures, Maps, Unmaps, XdgSurface as Xdg, answers_states, is_full, is_waiting, stage_of, xdg_at, xdg_of, xdg_with}
+use Rattle.wl_shell.specs.Shell.{Effect, Configures, XdgSurface as Xdg, answers_states, is_full, is_waiting, stage_of, xdg_at, xdg_of, xdg_with}
 use Rattle.spec_desktop.specs.Ask.{Ask, Ignore, CreateSurface, GetXdgSurface, owns}
 use Rattle.spec_desktop.specs.Demand.{Demand, Asks}
 use Rattle.spec_desktop.specs.Demand.{GetPopup, Grab, EndPopup}
@@ -93,12 +93,8 @@ own-demand-fits r object version request = own-fits r (action_of (known_of r.pee
 -- ---- surfaces
 
 commit-fits : (r : Resident) (o : Option Xdg) (object : ℕ) (effect : Effect) → Fits r (committed_by o object effect)
-commit-fits r None object effect = tt
-commit-fits r (Some x) object Stays = tt
-commit-fits r (Some x) object Unconfigured = tt
 commit-fits r (Some x) object Configures = either r (is_full x.configures) _ _ (λ full. tt) (λ room. tt)
-commit-fits r (Some x) object Maps = tt
-commit-fits r (Some x) object Unmaps = tt
+commit-fits r o object effect = tt
 
 -- where the buffer is whole, as without that
 whole-fits : (r : Resident) (b : Bool) (object : ℕ) (judged : Result Demand Refusal) → Fits r judged → Fits r (if_whole b object judged)
@@ -129,11 +125,9 @@ placed-fits r object parent request (Some member) = tt
 link-fits : (r : Resident) (object : ℕ) (o : Option Link) (request : WlSubsurfaceRequest) → Fits r (demand_by_link r object o request)
 link-fits r object o subsurface.Destroy = tt
 link-fits r object None request = tt
-link-fits r object (Some l) (subsurface.SetPosition x y) = tt
 link-fits r object (Some l) (subsurface.PlaceAbove sibling) = placed-fits r object l.parent (PlaceAbove l.number) (beside r.owned.surfaces l sibling)
 link-fits r object (Some l) (subsurface.PlaceBelow sibling) = placed-fits r object l.parent (PlaceBelow l.number) (beside r.owned.surfaces l sibling)
-link-fits r object (Some l) subsurface.SetSync = tt
-link-fits r object (Some l) subsurface.SetDesync = tt
+link-fits r object o request = tt
 
 -- ---- the pointer
 

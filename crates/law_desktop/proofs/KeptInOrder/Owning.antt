@@ -12,7 +12,7 @@ use Rattle.wl_shell.specs.Popups.{kind_popup, popup_in}
 use Rattle.wl_shell.specs.Shell.{IsPopup, Kind, RoleObject, Shell, Toplevel, XdgSurface as Xdg}
 use Rattle.spec_desktop.specs.Ask.{CreateSurface, GetXdgSurface}
 use Rattle.spec_desktop.specs.Changing.{changed_for}
-use Rattle.spec_desktop.specs.Demand.{Demand, Asks, EndPopup, EndSurface, GetPopup, Grab}
+use Rattle.spec_desktop.specs.Demand.{Demand, Asks, EndSurface}
 use Rattle.spec_desktop.specs.Demanding.{judge_all}
 use Rattle.spec_desktop.specs.Desktop.{Desktop, Resident}
 use Rattle.spec_desktop.specs.Step.{with_peer}
@@ -140,10 +140,6 @@ peer-ordered r p same owns = record {
 -- what is known of it is so once it is counted
 fit-counted : (r : Resident) (rest : List ℕ) (demand : Demand) → IsFit r demand → IsFit (counted_of r rest) demand
 fit-counted r rest (Asks (CreateSurface id version)) fit = fit
-fit-counted r rest (Asks (GetXdgSurface id version base surface)) fit = fit
-fit-counted r rest (GetPopup id version xdg parent p) fit = fit
-fit-counted r rest (Grab xdg serial) fit = fit
-fit-counted r rest (EndPopup id xdg) fit = fit
 fit-counted r rest demand fit = fit
 
 meets : (r : Resident) (demand : Demand) → OwnsInOrder r → IsFit r demand → Meets (IsThere r.owned.surfaces) demand

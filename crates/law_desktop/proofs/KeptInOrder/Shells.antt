@@ -11,8 +11,8 @@ use Rattle.wl_shell.proofs.Reading.{any-popup}
 use Rattle.spec_desktop.specs.Ask.{Ask, GetXdgSurface, DestroyXdgSurface, GetToplevel, Acknowledge, ConfigureAgain}
 use Rattle.spec_desktop.specs.Changing.{Placing, changed_for, drawing, effect_placing, grab_allowed, grabbed, has_focus, in_rising_order, is_configure, mode_set, placement_now, popup_given_to, tree_committed}
 use Rattle.spec_desktop.specs.Changing.{popup_repositioned}
-use Rattle.spec_desktop.specs.Demand.{Demand, Asks, EndSurface, AskFrame, CommitTree, GetSubsurface, EndSubsurface, SetMode, GetPointer, MakeCursor, Reposition}
-use Rattle.spec_desktop.specs.Demand.{GetPopup, Grab, EndPopup, EndToplevel, Move}
+use Rattle.spec_desktop.specs.Demand.{Demand, Asks, CommitTree, SetMode, GetPointer, Reposition}
+use Rattle.spec_desktop.specs.Demand.{GetPopup, Grab, EndPopup, EndToplevel}
 use Rattle.spec_desktop.specs.Demanding.{effect_of_commit}
 use Rattle.spec_desktop.specs.Desktop.{Desktop, Resident}
 use Rattle.spec_desktop.specs.Step.{asked_so_far, changed_by, toplevel_given, xdg_changed}
@@ -180,18 +180,13 @@ module _ (P : ℕ → Type 0) where
       (c k : ℕ) (demand : Demand) (r : Resident) (d : Desktop) → AreApartBy (λ key x. x.id == key) r.owned.shell → IsAllowed r demand → IsFit r demand → Meets P demand → r.peer.requests ≡ k + 1 → OfEach (OfPopup (IsUpTo k)) r.owned.shell
       → AreFine P r.owned.shell → AreFine P (changed_for c demand r d).owned.shell
   demanded-fine c k (Asks ask) r d apart ok fit new next up fine = fine-asked ask r ok new fine
-  demanded-fine c k (EndSurface id) r d apart ok fit new next up fine = fine
-  demanded-fine c k (AskFrame id version surface) r d apart ok fit new next up fine = fine
   demanded-fine c k (CommitTree surface) r d apart ok fit new next up fine =
       fine-effect (placement_now c r d) surface (effect_of_commit r surface) (xdg_of surface r.owned.shell) (tree_committed surface r) fine
-  demanded-fine c k (GetSubsurface id version child parent) r d apart ok fit new next up fine = fine
-  demanded-fine c k (EndSubsurface id) r d apart ok fit new next up fine = fine
   demanded-fine c k (SetMode link synchronised) r d apart ok fit new next up fine = fine-mode link synchronised r fine
   demanded-fine c k (GetPointer id version) r d apart ok fit new next up fine = fine-drawn (has_focus c d.pointer.focus) (record r { pointers = in_rising_order id r.pointers }) fine
-  demanded-fine c k (MakeCursor surface) r d apart ok fit new next up fine = fine
   demanded-fine c k (GetPopup id version xdg parent p) r d apart ok fit new next up fine = fine-popup id xdg parent k p (xdg_at xdg r.owned.shell) r next up refl ok.1 fit fine
   demanded-fine c k (Reposition xdg token p) r d apart ok fit new next up fine = fine-repositioned (placement_now c r d) p (popup_at xdg r.owned.shell) r fine
   demanded-fine c k (Grab xdg serial) r d apart ok fit new next up fine = fine-grabbed (grab_allowed c xdg serial r d) xdg r apart fit fine
   demanded-fine c k (EndPopup id xdg) r d apart ok fit new next up fine = fine-bare xdg r.owned.shell (no-parent xdg r.owned.shell fit) fine
   demanded-fine c k (EndToplevel id xdg top) r d apart ok fit new next up fine = fine-ended xdg r.owned.shell fine
-  demanded-fine c k (Move surface serial) r d apart ok fit new next up fine = fine
+  demanded-fine c k demand r d apart ok fit new next up fine = fine

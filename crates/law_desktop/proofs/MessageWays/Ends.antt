@@ -89,9 +89,7 @@ leaves-all c d = record { clients = refl; standing = refl; output = refl }
 
 commit-leaves : (effect : Effect) (b : Bool) (c surface : ℕ) (d : Desktop) → LeavesOthers c d (stacked_by effect b c surface d)
 commit-leaves Maps true c surface d = record { clients = refl; standing = without-mapped d.mappings c surface d.standing; output = refl }
-commit-leaves Maps false c surface d = leaves-all c d
 commit-leaves Unmaps true c surface d = record { clients = refl; standing = without-its c surface d.standing; output = refl }
-commit-leaves Unmaps false c surface d = leaves-all c d
 commit-leaves effect b c surface d = leaves-all c d
 
 pub stacked-leaves : (c : ℕ) (demand : Demand) (r : Resident) (windows : List Window) (d : Desktop) → LeavesOthers c d (stacked_for c demand r windows d)

@@ -268,10 +268,9 @@ module _ (c : ℕ) (r : Resident) (d e : Desktop) (is : client_at c d ≡ Some r
   takes-whole b (Whole object opcode size) h =
       let body = take (size - 8) (drop 8 r.peer.rest) in
       answers-whole b (drop size r.peer.rest) object opcode body (judge_all r object opcode body) refl h
-  takes-whole true Bad h = absurd h
   takes-whole false Bad h = becomes-settled _ r h
   takes-whole true More h = absurd h
-  takes-whole false More h = absurd h
+  takes-whole b split h = absurd h
 
   -- ---- where it leads
 
@@ -322,10 +321,9 @@ module _ (c : ℕ) (r : Resident) (d e : Desktop) (is : client_at c d ≡ Some r
         answers-through b (drop size r.peer.rest) object opcode body (judge_all r object opcode body) refl
         (λ o p s e. ap (λ (n : ℕ). drop n r.peer.rest) (same-size object opcode size o p s (sym came ∙ e)))
         (λ demand judged. subst (λ split. IsDemanded split r demand) (sym came) judged) h
-    takes-through true Bad came h = absurd h
     takes-through false Bad came h = becomes-through (Errs (display_error InvalidMethod) r.peer) (erred (display_error InvalidMethod) r.peer) r h
     takes-through true More came h = absurd h
-    takes-through false More came h = absurd h
+    takes-through b split came h = absurd h
 
 pub messages_lead_so : MessagesLeadSo
 messages_lead_so b c r d e order stand is alive h =

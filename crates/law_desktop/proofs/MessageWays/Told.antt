@@ -8,7 +8,7 @@ use Rattle.wl_shell.specs.Shell.{Effect, Maps, Unmaps, xdg_of}
 use Rattle.spec_desktop.specs.Pointer.{Pointer, first_pointer}
 use Rattle.spec_desktop.specs.Windows.{Window}
 use Rattle.spec_desktop.specs.Changing.{moving_from, stacked_by, stacked_for}
-use Rattle.spec_desktop.specs.Demand.{Demand, CommitTree, EndToplevel, Move}
+use Rattle.spec_desktop.specs.Demand.{Demand, CommitTree, Move}
 use Rattle.spec_desktop.specs.Demanding.{effect_of_commit}
 use Rattle.spec_desktop.specs.Desktop.{Desktop, Resident, client_at, with_client}
 use Rattle.spec_desktop.specs.Settling.{QueuesFirst, QueuesTo, becomes}
@@ -23,9 +23,7 @@ use Rattle.law_desktop.specs.Ways.{Becomes}
 
 pub by-still : (effect : Effect) (b : Bool) (c id : ℕ) (d : Desktop) → (stacked_by effect b c id d).pointer ≡ d.pointer
 by-still Maps true c id d = refl
-by-still Maps false c id d = refl
 by-still Unmaps true c id d = refl
-by-still Unmaps false c id d = refl
 by-still effect b c id d = refl
 
 -- nothing is held, so nothing is moved
@@ -34,7 +32,6 @@ moves-nothing c surface serial windows p still = subst (λ (q : Pointer). moving
 
 pub stacked-still : (c : ℕ) (demand : Demand) (r : Resident) (windows : List Window) (d : Desktop) → d.pointer ≡ first_pointer → (stacked_for c demand r windows d).pointer ≡ first_pointer
 stacked-still c (CommitTree id) r windows d still = by-still (effect_of_commit r id) (is_toplevel (xdg_of id r.owned.shell)) c id d ∙ still
-stacked-still c (EndToplevel id xdg top) r windows d still = still
 stacked-still c (Move id serial) r windows d still = moves-nothing c id serial windows d.pointer still ∙ still
 stacked-still c demand r windows d still = still
 

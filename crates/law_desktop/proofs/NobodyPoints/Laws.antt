@@ -1,7 +1,7 @@
 -- Where nobody points nobody does after what leaves the pointer alone.
 use Rattle.std.proofs.Common.{◌≡◌, ℕ, List, Bool, true, false, Option, Some, None, refl, ap, sym, subst, ◌∙◌}
 use Rattle.spec_desktop.specs.declared.cause.Cause.{Cause}
-use Rattle.wl_shell.specs.Shell.{Effect, Stays, Unconfigured, Configures, Maps, Unmaps, XdgSurface as Xdg, xdg_at, xdg_of}
+use Rattle.wl_shell.specs.Shell.{Effect, Stays, XdgSurface as Xdg, xdg_at, xdg_of}
 use Rattle.wl_shell.specs.Positioner.{Positioner}
 use Rattle.wl_shell.specs.Popups.{Popped, copying, is_configured, popup_at, repositioning}
 use Rattle.spec_desktop.specs.Stacking.{Standing}
@@ -58,10 +58,7 @@ drawn-heard false r = (refl, refl)
 effect-heard : (where_to : Placing) (id : ℕ) (effect : Effect) (o : Option Xdg) (r : Resident) → HeardSo r (effect_placing where_to id effect o r)
 effect-heard where_to id effect None r = (refl, refl)
 effect-heard where_to id Stays (Some x) r = (refl, refl)
-effect-heard where_to id Unconfigured (Some x) r = (refl, refl)
-effect-heard where_to id Configures (Some x) r = (refl, refl)
-effect-heard where_to id Maps (Some x) r = (refl, refl)
-effect-heard where_to id Unmaps (Some x) r = (refl, refl)
+effect-heard where_to id effect o r = (refl, refl)
 
 toplevel-heard : (id xdg : ℕ) (o : Option Xdg) (r : Resident) → HeardSo r (toplevel_given id xdg o r)
 toplevel-heard id xdg None r = (refl, refl)

@@ -15,7 +15,7 @@ use Rattle.wl_surface.specs.Surface.{asking, with_role}
 use Rattle.wl_surface.specs.Surfaces.{Surfaces, is_used, with_change}
 use Rattle.wl_surface.specs.Waiting.{Callback}
 use Rattle.wl_shell.specs.Positioner.{Positioner}
-use Rattle.wl_shell.specs.Shell.{Effect, Stays, Unconfigured, Configures, Maps, Unmaps, XdgSurface, xdg_at, xdg_of}
+use Rattle.wl_shell.specs.Shell.{Effect, Stays, XdgSurface, xdg_at, xdg_of}
 use Rattle.wl_shell.specs.Popups.{Popped, copying, is_configured, popup_at, repositioning}
 use Rattle.spec_desktop.specs.Ask.{Ask, Own, CreateSurface, AskSurface, GetToplevel}
 use Rattle.spec_desktop.specs.Changing.{Placing, callbacks_of, changed_for, drawing, effect_placing, placement_now, grab_allowed, grabbed, has_focus, in_rising_order, link_with_id, mode_set, popup_given_to, tree_committed}
@@ -59,10 +59,7 @@ popup-spares id xdg parent p (Some x) r = (refl, role-fewer x.surface _ r.owned.
 effect-spares : (where_to : Placing) (surface : ℕ) (effect : Effect) (x : Option XdgSurface) (r : Resident) → Spares r (effect_placing where_to surface effect x r)
 effect-spares where_to surface effect None r = (refl, spares-all r)
 effect-spares where_to surface Stays (Some x) r = (refl, spares-all r)
-effect-spares where_to surface Unconfigured (Some x) r = (refl, spares-all r)
-effect-spares where_to surface Configures (Some x) r = (refl, spares-all r)
-effect-spares where_to surface Maps (Some x) r = (refl, spares-all r)
-effect-spares where_to surface Unmaps (Some x) r = (refl, spares-all r)
+effect-spares where_to surface effect x r = (refl, spares-all r)
 
 grab-spares : (b : Bool) (xdg : ℕ) (r : Resident) → Spares r (grabbed b xdg r)
 grab-spares true xdg r = (refl, spares-all r)

@@ -35,7 +35,7 @@ use Rattle.wl_surface.specs.Surfaces.{Link}
 use Rattle.wl_surface.specs.Trees.{is_bad_parent, is_too_deep}
 use Rattle.wl_shell.specs.Popups.{Popped, is_parent, is_popup_mapped, popup_at, is_configured}
 use Rattle.wl_shell.specs.Positioner.{Positioner, is_complete}
-use Rattle.wl_shell.specs.Shell.{Effect, Stays, Unconfigured, Configures, Maps, Unmaps, XdgSurface as Xdg, answers_states, is_full, is_waiting, stage_of, xdg_at, xdg_of, xdg_with}
+use Rattle.wl_shell.specs.Shell.{Effect, Configures, XdgSurface as Xdg, answers_states, is_full, is_waiting, stage_of, xdg_at, xdg_of, xdg_with}
 use Rattle.spec_desktop.specs.Ask.{Ask, AskSurface, owns}
 use Rattle.spec_desktop.specs.Demand.{Demand, Asks}
 use Rattle.spec_desktop.specs.Demanding.{base_demand, committed_by, demand_by, demand_of, demands, effect_of_commit, judge_all, moved_by_pointer, surface_demand, toplevel_asked, toplevel_destroyed}
@@ -102,12 +102,8 @@ module _ (r : Resident) where
   -- ---- surfaces
 
   committed-froms : (o : Option Xdg) (object : ℕ) (effect : Effect) → Froms (committed_by o object effect)
-  committed-froms None object effect = tt
-  committed-froms (Some x) object Unconfigured = tt
   committed-froms (Some x) object Configures = if-froms (is_full x.configures) _ _ tt tt
-  committed-froms (Some x) object Stays = tt
-  committed-froms (Some x) object Maps = tt
-  committed-froms (Some x) object Unmaps = tt
+  committed-froms o object effect = tt
 
   -- where the buffer is whole, as without that
   whole-froms : (b : Bool) (object : ℕ) (judged : Result Demand Refusal) → Froms judged → Froms (if_whole b object judged)
@@ -143,24 +139,19 @@ module _ (r : Resident) where
   link-froms : (l : Option Link) (object : ℕ) (request : WlSubsurfaceRequest) → Froms (demand_by_link r object l request)
   link-froms l object subsurface.Destroy = tt
   link-froms None object (subsurface.SetPosition x y) = tt
-  link-froms None object (subsurface.PlaceAbove sibling) = tt
-  link-froms None object (subsurface.PlaceBelow sibling) = tt
   link-froms None object subsurface.SetSync = tt
   link-froms None object subsurface.SetDesync = tt
-  link-froms (Some l) object (subsurface.SetPosition x y) = tt
   link-froms (Some l) object (subsurface.PlaceAbove sibling) = above-froms object l (beside r.owned.surfaces l sibling)
   link-froms (Some l) object (subsurface.PlaceBelow sibling) = below-froms object l (beside r.owned.surfaces l sibling)
-  link-froms (Some l) object subsurface.SetSync = tt
-  link-froms (Some l) object subsurface.SetDesync = tt
+  link-froms l object request = tt
 
   -- ---- the shell
 
   base-froms : (object version : ℕ) (request : XdgWmBaseRequest) → Froms (base_demand r object version request)
   base-froms object version base.Destroy = if-asks (list_any (λ x. x.base == object) r.owned.shell) _ _ tt tt
-  base-froms object version (base.CreatePositioner id) = tt
   base-froms object version (base.GetXdgSurface id surface) =
       if-asks (is_foreign (role_of r surface) || is_some (xdg_of surface r.owned.shell)) _ _ tt (if-asks (has_any r surface) _ _ tt tt)
-  base-froms object version (base.Pong serial) = tt
+  base-froms object version request = tt
 
   popup-made-froms : (x : Xdg) (version id parent : ℕ) (p : Positioner) → Froms (popup_made r x version id parent p)
   popup-made-froms x version id parent p =
@@ -244,10 +235,8 @@ module _ (r : Resident) where
   demand-froms (ToPool request) object version = own-froms (action_of (known_of r.peer) object version (ToPool request))
   demand-froms (ToBuffer request) object version = own-froms (action_of (known_of r.peer) object version (ToBuffer request))
   demand-froms ToNothing object version = own-froms (action_of (known_of r.peer) object version ToNothing)
-  demand-froms (ToSubcompositor subcompositor.Destroy) object version = tt
   demand-froms (ToSeat (seat.GetPointer id)) object version = tt
-  demand-froms (ToSeat (seat.GetKeyboard id)) object version = tt
-  demand-froms (ToSeat (seat.GetTouch id)) object version = tt
+  demand-froms request object version = tt
 
   pub judged-from : (object opcode : ℕ) (body : List ℕ) (demand : Demand) → judge_all r object opcode body ≡ Ok demand
       → IsFrom r.peer.buffers demand

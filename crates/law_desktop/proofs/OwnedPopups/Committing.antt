@@ -7,7 +7,7 @@ use Rattle.spec_desktop.specs.Told.{Said}
 use Rattle.wl_links.specs.Family.{Tied}
 use Rattle.wl_surface.specs.Slots.{Slots}
 use Rattle.wl_shell.specs.declared.acts.ShellAct.{ShellAct}
-use Rattle.wl_shell.specs.declared.acts.ShellAct.TheVariants.{Configure, Map, Unmap, Place, Nothing}
+use Rattle.wl_shell.specs.declared.acts.ShellAct.TheVariants.{Configure, Map, Unmap}
 use Rattle.wl_shell.specs.declared.error.ShellError.{ShellError}
 use Rattle.wl_shell.specs.declared.error.ShellError.TheVariants.{TooMany}
 use Rattle.wl_shell.specs.Kept.{Kept, changing, commit_answer, effect_answer, kept_after, placement_in, popup_placed}
@@ -48,7 +48,6 @@ committed names slots tied kept r c id number bounds at act d new tying after is
 -- it is placed where the shell answers
 answered-place : (placed by waiting : Option Placed) (effect : Effect) (configures : List Waits) → effect_answer by waiting effect configures ≡ Ok (Configure placed) → by ≡ placed
 answered-place placed by None Stays configures e = absurd (cc)
-answered-place placed by (Some waiting) Stays configures e = absurd (cc)
 answered-place placed by waiting Configures configures e = at (is_full configures) e
   where
     at : (b : Bool) → ◌≡◌ {A = Result ShellAct ShellError} (if b then Err TooMany else Ok (Configure by)) (Ok (Configure placed)) → by ≡ placed
@@ -114,8 +113,7 @@ module _ (names : Names) (slots : Slots) (tied : Tied) (kept : ℕ → Option Ke
   by-act (Configure placed) answer = configure-so placed answer
   by-act Map answer = mapped-told c (xdg_of id r.owned.shell) r d
   by-act Unmap answer = unmapped-told c (xdg_of id r.owned.shell) r d
-  by-act (Place placed) answer = still-told c (xdg_of id r.owned.shell) r d
-  by-act Nothing answer = still-told c (xdg_of id r.owned.shell) r d
+  by-act act answer = still-told c (xdg_of id r.owned.shell) r d
 
 told : CommitTold
 told names slots tied kept r c id number bounds at act d windows after is named within there answer keeps =

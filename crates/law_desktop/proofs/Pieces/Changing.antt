@@ -32,7 +32,7 @@ use Rattle.wl_surface.specs.Trees.{destroyed_in}
 use Rattle.wl_surface.specs.Waiting.{Callback}
 use Rattle.wl_shell.specs.Popups.{Popped, copying, is_configured, is_toplevel, parent_allows, parent_of, popup_at, repositioning}
 use Rattle.wl_shell.specs.Positioner.{Positioner}
-use Rattle.wl_shell.specs.Shell.{Effect, Stays, Unconfigured, Configures, Maps, Unmaps, Kind, Toplevel, IsPopup, RoleObject, XdgSurface as Xdg, xdg_at, xdg_of, xdg_with}
+use Rattle.wl_shell.specs.Shell.{Effect, Stays, Configures, Maps, Unmaps, Kind, Toplevel, IsPopup, RoleObject, XdgSurface as Xdg, xdg_at, xdg_of, xdg_with}
 use Rattle.spec_desktop.specs.Windows.{Window}
 use Rattle.spec_desktop.specs.Changing.{Placing, after_all, callbacks_of, changed_for, drawing, effect_placing, placement_now, grab_allowed, grabbed, has_focus, in_rising_order, is_held_elsewhere, is_latest, mode_set}
 use Rattle.spec_desktop.specs.Changing.{popup_given_to, popup_repositioned, stacked_by, stacked_for, tree_committed, with_kept_move, without_callbacks, without_child}
@@ -40,7 +40,7 @@ use Rattle.spec_desktop.specs.Demand.{Demand, Asks, EndSurface, CommitTree, SetM
 use Rattle.spec_desktop.specs.Demand.{GetPopup, Reposition, Grab}
 use Rattle.spec_desktop.specs.Demanding.{base_demand, demand_by, demand_of, effect_of_commit, judge_all, surface_demand, xdg_asked}
 use Rattle.spec_desktop.specs.Desktop.{Desktop, Resident}
-use Rattle.spec_desktop.specs.Requests.{Request, ToCompositor, ToSurface, ToSubcompositor, ToSubsurface, ToSeat, ToPointer, ToBase, ToPositioner, ToXdgSurface, ToToplevel, ToPopup, request_of}
+use Rattle.spec_desktop.specs.Requests.{Request, ToCompositor, ToSurface, ToSubcompositor, ToSubsurface, ToPointer, ToBase, ToXdgSurface, ToPopup, request_of}
 use Rattle.spec_desktop.specs.Replies.{commit_told, configure_told, new_pointer_told, own_answers, popups_done, releases, replies, reposition_told, role_told}
 use Rattle.spec_desktop.specs.Stacked.{all_windows}
 use Rattle.spec_desktop.specs.Step.{making, removing, with_peer, with_surfaces, xdg_changed, xdg_configured}
@@ -53,12 +53,8 @@ use Rattle.law_desktop.proofs.Pieces.Places.{holder-longer, longer_in, windows-l
 -- ---- what a message asks
 
 xdg-asks : (x : Option Xdg) (r : Resident) (version : ℕ) (request : XdgSurfaceRequest) (rest : List ℕ) → xdg_asked (with_behind rest r) x version request ≡ xdg_asked r x version request
-xdg-asks None r version request rest = refl
 xdg-asks (Some x) r version xdg.Destroy rest = refl
-xdg-asks (Some x) r version (xdg.GetToplevel id) rest = refl
-xdg-asks (Some x) r version (xdg.GetPopup id parent positioner) rest = refl
-xdg-asks (Some x) r version (xdg.SetWindowGeometry a b width height) rest = refl
-xdg-asks (Some x) r version (xdg.AckConfigure serial) rest = refl
+xdg-asks x r version request rest = refl
 
 link-asks : (l : Option Link) (r : Resident) (object : ℕ) (request : WlSubsurfaceRequest) (rest : List ℕ) → demand_by_link (with_behind rest r) object l request ≡ demand_by_link r object l request
 link-asks l r object subsurface.Destroy rest = refl
@@ -67,17 +63,11 @@ link-asks None r object (subsurface.PlaceAbove sibling) rest = refl
 link-asks None r object (subsurface.PlaceBelow sibling) rest = refl
 link-asks None r object subsurface.SetSync rest = refl
 link-asks None r object subsurface.SetDesync rest = refl
-link-asks (Some l) r object (subsurface.SetPosition x y) rest = refl
-link-asks (Some l) r object (subsurface.PlaceAbove sibling) rest = refl
-link-asks (Some l) r object (subsurface.PlaceBelow sibling) rest = refl
-link-asks (Some l) r object subsurface.SetSync rest = refl
-link-asks (Some l) r object subsurface.SetDesync rest = refl
+link-asks l r object request rest = refl
 
 popup-asks : (x : Option Xdg) (r : Resident) (object : ℕ) (request : XdgPopupRequest) (rest : List ℕ) → popup_asked (with_behind rest r) object x request ≡ popup_asked r object x request
-popup-asks None r object request rest = refl
 popup-asks (Some x) r object popup.Destroy rest = refl
-popup-asks (Some x) r object (popup.Grab seat serial) rest = refl
-popup-asks (Some x) r object (popup.Reposition positioner token) rest = refl
+popup-asks x r object request rest = refl
 
 surface-asks : (r : Resident) (object version : ℕ) (request : WlSurfaceRequest) (rest : List ℕ) → surface_demand (with_behind rest r) object version request ≡ surface_demand r object version request
 surface-asks r object version surface.Destroy rest = refl
@@ -89,17 +79,12 @@ base-asks r object version request rest = refl
 
 demand-by : (request : Request) (r : Resident) (object version : ℕ) (rest : List ℕ) → demand_by request (with_behind rest r) object version ≡ demand_by request r object version
 demand-by (ToCompositor (compositor.CreateSurface id)) r object version rest = refl
-demand-by (ToCompositor (compositor.CreateRegion id)) r object version rest = refl
 demand-by (ToSurface request) r object version rest = surface-asks r object version request rest
 demand-by (ToSubcompositor subcompositor.Destroy) r object version rest = refl
-demand-by (ToSubcompositor (subcompositor.GetSubsurface id child parent)) r object version rest = refl
 demand-by (ToSubsurface request) r object version rest = link-asks (link_of_subsurface object r) r object request rest
-demand-by (ToSeat request) r object version rest = refl
 demand-by (ToPointer (pointer.SetCursor serial surface x y)) r object version rest = refl
 demand-by (ToBase request) r object version rest = base-asks r object version request rest
-demand-by (ToPositioner request) r object version rest = refl
 demand-by (ToXdgSurface request) r object version rest = xdg-asks (xdg_at object r.owned.shell) r version request rest
-demand-by (ToToplevel request) r object version rest = refl
 demand-by (ToPopup request) r object version rest = popup-asks (xdg_with object r.owned.shell) r object request rest
 demand-by request r object version rest = refl
 
@@ -160,10 +145,7 @@ module _ (c : ℕ) (more : List ℕ) where
       → effect_placing where_to surface effect x (with_behind rest r) ≡ with_behind rest (effect_placing where_to surface effect x r)
   effect-behind where_to surface effect None r rest = refl
   effect-behind where_to surface Stays (Some x) r rest = refl
-  effect-behind where_to surface Unconfigured (Some x) r rest = refl
-  effect-behind where_to surface Configures (Some x) r rest = refl
-  effect-behind where_to surface Maps (Some x) r rest = refl
-  effect-behind where_to surface Unmaps (Some x) r rest = refl
+  effect-behind where_to surface effect x r rest = refl
 
   allowed-behind : (xdg serial : ℕ) (r : Resident) (d : Desktop) (rest : List ℕ) → grab_allowed c xdg serial (with_behind rest r) (longer_in c more d) ≡ grab_allowed c xdg serial r d
   allowed-behind xdg serial r d rest =
@@ -196,7 +178,6 @@ module _ (c : ℕ) (more : List ℕ) where
   configure-behind (Some object) xdg r d rest = ap (λ (told : List Said). told ++ xdg_configured xdg r.peer.serial ∷ []) (role-behind object.kind object.id r d rest)
 
   commit-behind : (effect : Effect) (x : Option Xdg) (r : Resident) (d : Desktop) (rest : List ℕ) → commit_told c effect x (with_behind rest r) (longer_in c more d) ≡ commit_told c effect x r d
-  commit-behind Configures None r d rest = refl
   commit-behind Configures (Some x) r d rest = configure-behind x.role x.id r d rest
   commit-behind effect x r d rest = refl
 
@@ -228,9 +209,7 @@ module _ (c : ℕ) (more : List ℕ) where
   commit-stacks : (effect : Effect) (toplevel : Bool) (surface : ℕ) (d : Desktop)
       → stacked_by effect toplevel c surface (longer_in c more d) ≡ longer_in c more (stacked_by effect toplevel c surface d)
   commit-stacks Maps true surface d = refl
-  commit-stacks Maps false surface d = refl
   commit-stacks Unmaps true surface d = refl
-  commit-stacks Unmaps false surface d = refl
   commit-stacks effect toplevel surface d = refl
 
   stacks : (demand : Demand) (r : Resident) (windows : List Window) (d : Desktop) (rest : List ℕ)

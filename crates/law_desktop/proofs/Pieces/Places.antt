@@ -42,11 +42,9 @@ other-client more (Some r) = refl
 -- ---- who is where
 
 place-swap : (rs : List (Option Resident)) (k j : ℕ) (x y : Option Resident) → k ≢ j → with_place k x (with_place j y rs) ≡ with_place j y (with_place k x rs)
-place-swap [] k j x y differ = refl
 place-swap (r ∷ rs) zero zero x y differ = absurd (differ refl)
-place-swap (r ∷ rs) zero (suc j) x y differ = refl
-place-swap (r ∷ rs) (suc k) zero x y differ = refl
 place-swap (r ∷ rs) (suc k) (suc j) x y differ = ap (λ (qs : List (Option Resident)). r ∷ qs) (place-swap rs k j x y (λ e. differ (ap (λ (n : ℕ). suc n) e)))
+place-swap rs k j x y differ = refl
 
 number-swap : (clients : List (Option Resident)) (c k : ℕ) (x y : Option Resident) → c ≢ k → with_number c x (with_number k y clients) ≡ with_number k y (with_number c x clients)
 number-swap clients zero k x y differ = refl

@@ -50,10 +50,8 @@ not_short true ok cut o op n some = absurd (some refl)
 not_short false ok cut o op n some = refl
 
 not_cut : (s ok cut : Bool) (o op n a b c : ℕ) → split_by s ok cut o op n ≡ Message a b c → (cut ≡ false) × (n ≡ c)
-not_cut true ok cut o op n a b c e = absurd (cc)
-not_cut false false cut o op n a b c e = absurd (cc)
-not_cut false true true o op n a b c e = absurd (cc)
 not_cut false true false o op n a b c e = (refl, cc)
+not_cut s ok cut o op n a b c e = absurd (cc)
 
 -- a message stays the first, whatever comes behind
 pub split-append : (r more : List ℕ) → split_of r ≢ More → split_of (r ++ more) ≡ split_of r

@@ -5,7 +5,7 @@ use Rattle.std.proofs.lemmas.Option.{none-some, same_Some}
 use Rattle.std.specs.Prelude.{◌-◌, ◌==◌, ◌||◌, is_some, not, fold, ◌⊎◌, Ok, Err}
 use Rattle.wl_wire.specs.Wire.{split_of}
 use Rattle.wl_wire.specs.declared.header.Split.{Split}
-use Rattle.wl_wire.specs.declared.header.Split.TheVariants.{Message as Whole, More, Bad}
+use Rattle.wl_wire.specs.declared.header.Split.TheVariants.{Message as Whole}
 use Rattle.wl_proto.specs.declared.interface.Interface.TheVariants.{WlPointer, XdgPopup}
 use Rattle.wl_proto.specs.Messages.{says}
 use Rattle.spec_desktop.specs.declared.cause.Cause.{Cause}
@@ -183,8 +183,7 @@ module _ (c id version : ℕ) (d : Desktop) (path : List Desktop) (e : Desktop) 
       → TakesThen split c r (unpointed d) (settling_through path e) → Both (λ later new. TakesThen split c r d (settling_through later new))
   took (Whole object opcode size) r asked-is alive owns h =
       answered (judge_all r object opcode (take (size - 8) (drop 8 r.peer.rest))) (with_peer (with_rest (drop size r.peer.rest) r.peer) r) asked-is alive owns h
-  took Bad r asked-is alive owns h = absurd (none-some demand asked-is)
-  took More r asked-is alive owns h = absurd (none-some demand asked-is)
+  took split r asked-is alive owns h = absurd (none-some demand asked-is)
 
 pub new-pointer-apart-through : NewPointerApartThrough
 unfolding demand

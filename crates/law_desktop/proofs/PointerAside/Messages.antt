@@ -58,7 +58,6 @@ configure-same c r d xdg (Some object) = ap (λ (told : List Said). told ++ xdg_
 
 told-same : (c : ℕ) (effect : Effect) (o : Option XdgSurface) (r : Resident) (d : Desktop) → commit_told c effect o r (unpointed d) ≡ commit_told c effect o r d
 told-same c Configures (Some x) r d = configure-same c r d x.id x.role
-told-same c Configures None r d = refl
 told-same c effect o r d = refl
 
 reposition-same : (c : ℕ) (r : Resident) (d : Desktop) (token : ℕ) (p : Positioner) (o : Option Popped) → reposition_told c r (unpointed d) token p o ≡ reposition_told c r d token p o
@@ -86,9 +85,7 @@ stacked-back : (effect : Effect) (top : Bool) (c surface : ℕ) (d : Desktop)
     → with_kept_move (stacked_by effect top c surface d)
     ≡ pointed (keeping (with_kept_move (stacked_by effect top c surface (unpointed d))).standing d.pointer) (with_kept_move (stacked_by effect top c surface (unpointed d)))
 stacked-back Maps true c surface d = refl
-stacked-back Maps false c surface d = refl
 stacked-back Unmaps true c surface d = refl
-stacked-back Unmaps false c surface d = refl
 stacked-back effect top c surface d = refl
 
 pub done-back : (c : ℕ) (demand : Demand) (r : Resident) (d : Desktop) → done_for c demand r d ≡ pointed (done_back c demand r d) (done_for c demand r (unpointed d))
@@ -97,9 +94,7 @@ done-back c demand r d = refl
 
 stacked-still : (effect : Effect) (top : Bool) (c surface : ℕ) (d : Desktop) → (with_kept_move (stacked_by effect top c surface (unpointed d))).pointer ≡ first_pointer
 stacked-still Maps true c surface d = refl
-stacked-still Maps false c surface d = refl
 stacked-still Unmaps true c surface d = refl
-stacked-still Unmaps false c surface d = refl
 stacked-still effect top c surface d = refl
 
 pub done-still : (c : ℕ) (demand : Demand) (r : Resident) (d : Desktop) → (done_for c demand r (unpointed d)).pointer ≡ first_pointer

@@ -9,7 +9,7 @@ use Rattle.spec_desktop.specs.Told.{Said}
 use Rattle.wl_surface.specs.Surfaces.{history_in}
 use Rattle.wl_surface.specs.Waiting.{Callback}
 use Rattle.spec_desktop.specs.Pointer.{Pointer, Target, is_same, settled}
-use Rattle.spec_desktop.specs.PointerActions.{PointerAction, Leave, Enter, Motion, Button, Raise, MoveWindow, Dismiss}
+use Rattle.spec_desktop.specs.PointerActions.{PointerAction, Leave, Enter, Motion, Button, Dismiss}
 use Rattle.spec_desktop.specs.PointerActions.{PointerInput, Settle, GoTo, Went, Press, Release, actions, enter_of, leave_of, motion_of, move_of}
 use Rattle.spec_desktop.specs.Windows.{Place, Window}
 use Rattle.spec_desktop.specs.Changing.{drawing, without_callbacks}
@@ -227,9 +227,8 @@ module _ {X : Type 0} (of : Resident → X) where
     applies-keep windows (Button time button pressed t) old new keeps h c =
         tells-keep (λ r. noted_if (has_pointers r) pressed r) (button_told time button (number_of pressed)) (λ r. button-status (has_pointers r) pressed r)
         (λ r. keeps (has_pointers r) pressed r) t.client old new h c
-    applies-keep windows (Raise t) old new keeps h c = ap (λ (m : Midstep). noted_in c m.desktop) h
-    applies-keep windows (MoveWindow t x y) old new keeps h c = ap (λ (m : Midstep). noted_in c m.desktop) h
     applies-keep windows (Dismiss a) old new keeps h c = tells-keep without_grabs (λ r. popups_done r (without_grabs r)) (λ r. refl) (λ r. heeds.grabs r) a old new h c
+    applies-keep windows action old new keeps h c = ap (λ (m : Midstep). noted_in c m.desktop) h
 
     all-keep : (windows : List Window) (acts : List PointerAction) (old new : Midstep) → Each Keeps acts → AppliesAll windows acts old new → KeepsNoted old.desktop new.desktop
     all-keep windows [] old new keep h c = ap (λ (m : Midstep). noted_in c m.desktop) h

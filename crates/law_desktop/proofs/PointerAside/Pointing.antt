@@ -3,7 +3,7 @@ use Rattle.std.proofs.Common.{◌≡◌, ℕ, List, Bool, true, false, Option, S
 use Rattle.std.proofs.lemmas.Option.{none-some, same_Some}
 use Rattle.wl_proto.specs.declared.interface.Interface.TheVariants.{WlPointer}
 use Rattle.wl_shell.specs.Positioner.{Positioner}
-use Rattle.wl_shell.specs.Shell.{Effect, Stays, Unconfigured, Configures, Maps, Unmaps, XdgSurface, xdg_at, xdg_of}
+use Rattle.wl_shell.specs.Shell.{Effect, Stays, XdgSurface, xdg_at, xdg_of}
 use Rattle.wl_shell.specs.Popups.{Popped, copying, is_configured, popup_at, repositioning}
 use Rattle.spec_desktop.specs.Ask.{Ask, GetToplevel}
 use Rattle.spec_desktop.specs.Changing.{Placing, changed_for, drawing, effect_placing, grab_allowed, grabbed, popup_repositioned}
@@ -55,10 +55,7 @@ asked-seat ask r = refl
 effect-seat : (where_to : Placing) (surface : ℕ) (effect : Effect) (x : Option XdgSurface) (r : Resident) → seat_of (effect_placing where_to surface effect x r) ≡ seat_of r
 effect-seat where_to surface effect None r = refl
 effect-seat where_to surface Stays (Some x) r = refl
-effect-seat where_to surface Unconfigured (Some x) r = refl
-effect-seat where_to surface Configures (Some x) r = refl
-effect-seat where_to surface Maps (Some x) r = refl
-effect-seat where_to surface Unmaps (Some x) r = refl
+effect-seat where_to surface effect x r = refl
 
 mode-seat : (link : ℕ) (b : Bool) (r : Resident) → seat_of (mode_set link b r) ≡ seat_of r
 mode-seat link true r = refl

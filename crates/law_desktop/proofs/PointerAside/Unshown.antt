@@ -4,7 +4,7 @@ use Rattle.std.proofs.lemmas.Option.{none-some, same_Some}
 use Rattle.std.specs.Prelude.{◌-◌, ◌⊎◌, Ok, Err}
 use Rattle.wl_wire.specs.Wire.{split_of}
 use Rattle.wl_wire.specs.declared.header.Split.{Split}
-use Rattle.wl_wire.specs.declared.header.Split.TheVariants.{Message as Whole, More, Bad}
+use Rattle.wl_wire.specs.declared.header.Split.TheVariants.{Message as Whole}
 use Rattle.wl_proto.specs.declared.interface.Interface.TheVariants.{WlPointer}
 use Rattle.spec_desktop.specs.declared.cause.Cause.{Cause}
 use Rattle.spec_desktop.specs.declared.cause.Cause.TheVariants.{Memory}
@@ -86,8 +86,7 @@ module _ (c id version : ℕ) (d : Desktop) (path : List Desktop) (e : Desktop) 
   took : (split : Split) (r : Resident) → asked_first split r ≡ Some demand → r.owned ≡ there.owned → TakesThen split c r d (settling_through path e) → Same
   took (Whole object opcode size) r asked-is owns h =
       answered (judge_all r object opcode (take (size - 8) (drop 8 r.peer.rest))) (with_peer (with_rest (drop size r.peer.rest) r.peer) r) asked-is owns h
-  took Bad r asked-is owns h = absurd (none-some demand asked-is)
-  took More r asked-is owns h = absurd (none-some demand asked-is)
+  took split r asked-is owns h = absurd (none-some demand asked-is)
 
 pub new-pointer-shows-nothing : NewPointerShowsNothing
 unfolding demand

@@ -6,7 +6,7 @@ use Rattle.std.proofs.lemmas.Option.{same_Some}
 use Rattle.wl_surface.specs.Surfaces.{Surfaces}
 use Rattle.wl_surface.specs.Trees.{committed_in, levels}
 use Rattle.wl_shell.specs.Popups.{Popped, is_toplevel, is_toplevel_kind, popped_kind, popped_of, popped_role, popups_of, with_effect}
-use Rattle.wl_shell.specs.Shell.{Configures, Effect, IsPopup, Kind, Maps, RoleObject, Stays, Toplevel, Unconfigured, Unmaps, XdgSurface, xdg_at, xdg_of}
+use Rattle.wl_shell.specs.Shell.{Effect, IsPopup, Kind, Maps, RoleObject, Stays, Toplevel, Unmaps, XdgSurface, xdg_at, xdg_of}
 use Rattle.spec_desktop.specs.Popups.{stacked_popup}
 use Rattle.spec_desktop.specs.Stacking.{Owned, without_surface_of}
 use Rattle.spec_desktop.specs.Changing.{Placing, effect_placing, placement_now, stacked_by, tree_committed}
@@ -91,10 +91,7 @@ module _ (c : ℕ) (d : Desktop) (had : HasTrees d) where
 pub effect-surfaces : (where_to : Placing) (surface : ℕ) (effect : Effect) (o : Option XdgSurface) (r : Resident) → (effect_placing where_to surface effect o r).owned.surfaces ≡ r.owned.surfaces
 effect-surfaces where_to surface effect None r = refl
 effect-surfaces where_to surface Stays (Some x) r = refl
-effect-surfaces where_to surface Unconfigured (Some x) r = refl
-effect-surfaces where_to surface Configures (Some x) r = refl
-effect-surfaces where_to surface Maps (Some x) r = refl
-effect-surfaces where_to surface Unmaps (Some x) r = refl
+effect-surfaces where_to surface effect o r = refl
 
 abbrev effected : Placing → ℕ → Effect → XdgSurface → Resident → XdgSurface → XdgSurface
 effected where_to surface effect x r y = cond (y.id == x.id) (with_effect r.peer.serial (asked_so_far surface r) where_to effect y) y
@@ -168,8 +165,6 @@ module _ (c surface : ℕ) (r : Resident) (d e : Desktop) (had : HasTrees d) (ha
             (subst (λ n. e.standing ≡ (stacked_by Maps true c n d).standing) at-root stack)
         by Unmaps true is stack =
             taken-out c root d e had.sound has.sound touches (unpopped is) (subst (λ n. e.standing ≡ without_surface_of c n d.standing) at-root stack)
-        by Maps false is stack = same stack
-        by Unmaps false is stack = same stack
         by effect b is stack = same stack
 
   pub commit-changes : ChangesAt (Some surface) c d e

@@ -34,7 +34,7 @@ use Rattle.wl_surface.specs.Surfaces.{Link}
 use Rattle.wl_surface.specs.Trees.{is_bad_parent, is_too_deep}
 use Rattle.wl_shell.specs.Popups.{Popped, is_parent, is_popup_mapped, popup_at, is_configured}
 use Rattle.wl_shell.specs.Positioner.{Positioner, is_complete}
-use Rattle.wl_shell.specs.Shell.{Effect, Stays, Unconfigured, Configures, Maps, Unmaps, XdgSurface as Xdg, is_full, xdg_at, xdg_of, xdg_with}
+use Rattle.wl_shell.specs.Shell.{Effect, Configures, XdgSurface as Xdg, is_full, xdg_at, xdg_of, xdg_with}
 use Rattle.spec_desktop.specs.Ask.{Ask, Ignore, owns}
 use Rattle.spec_desktop.specs.Demand.{Asks, Demand, Grab}
 use Rattle.spec_desktop.specs.Demanding.{base_demand, committed_by, demand_by, demand_of, demands, effect_of_commit, judge_all, moved_by_pointer, own_demand, surface_demand, if_whole}
@@ -71,12 +71,8 @@ module _ (r : Resident) where
   -- ---- surfaces
 
   commit-before : (o : Option Xdg) (object : ℕ) (effect : Effect) → IsBeforeSo r (committed_by o object effect)
-  commit-before None object effect = tt
-  commit-before (Some x) object Stays = tt
-  commit-before (Some x) object Unconfigured = tt
   commit-before (Some x) object Configures = if-before (is_full x.configures) _ _ (λ full. tt) (λ room. tt)
-  commit-before (Some x) object Maps = tt
-  commit-before (Some x) object Unmaps = tt
+  commit-before o object effect = tt
 
   -- where the buffer is whole, as without that
   whole-before : (b : Bool) (object : ℕ) (judged : Result Demand Refusal) → IsBeforeSo r judged → IsBeforeSo r (if_whole b object judged)
@@ -107,11 +103,9 @@ module _ (r : Resident) where
   link-before : (object : ℕ) (o : Option Link) (request : WlSubsurfaceRequest) → IsBeforeSo r (demand_by_link r object o request)
   link-before object o subsurface.Destroy = tt
   link-before object None request = tt
-  link-before object (Some l) (subsurface.SetPosition x y) = tt
   link-before object (Some l) (subsurface.PlaceAbove sibling) = placed-before object l.parent (PlaceAbove l.number) (beside r.owned.surfaces l sibling)
   link-before object (Some l) (subsurface.PlaceBelow sibling) = placed-before object l.parent (PlaceBelow l.number) (beside r.owned.surfaces l sibling)
-  link-before object (Some l) subsurface.SetSync = tt
-  link-before object (Some l) subsurface.SetDesync = tt
+  link-before object o request = tt
 
   -- ---- the pointer
 

@@ -113,8 +113,7 @@ module _ (c : ℕ) (r : Resident) (d e : Desktop) (still : d.pointer ≡ first_p
 
 meant : (r : Resident) → OwnsInOrder r → (split : Split) (demand : Demand) → IsDemanded split r demand → IsMeant demand r
 meant r owns (Whole object opcode size) demand judged = judged-is-meant r object opcode (take (size - 8) (drop 8 r.peer.rest)) demand owns judged
-meant r owns Bad demand judged = absurd judged
-meant r owns More demand judged = absurd judged
+meant r owns split demand judged = absurd judged
 
 pub messages-change : MessagesChangeOneToplevel
 messages-change c r d e order shown here serves alive =

@@ -104,10 +104,8 @@ pub record KeepsNumbers (f : XdgSurface → XdgSurface) (shell : Shell) : Type 0
 
 alike-numbered : (ps qs : List Popped) → AreAlike ps qs → AreNumberedAlike ps qs
 alike-numbered [] [] e = tt
-alike-numbered [] (q ∷ qs) e = e
-alike-numbered (p ∷ ps) [] e = e
 alike-numbered (p ∷ ps) (q ∷ []) e = (e.0, e.2)
-alike-numbered (p ∷ ps) (q ∷ r ∷ qs) e = e
+alike-numbered ps qs e = e
 
 pub numbered : (f : XdgSurface → XdgSurface) → KeepsPopups f → (shell : Shell) → KeepsNumbers f shell
 numbered f keeps shell = record {

@@ -47,12 +47,10 @@ use Rattle.law_desktop.proofs.Lists.Tests.{none-any}
 
 through-numbered : (ps qs rs : List Popped) → AreNumberedAlike ps qs → AreNumberedAlike qs rs → AreNumberedAlike ps rs
 through-numbered [] [] rs e f = f
-through-numbered [] (q ∷ qs) rs e f = absurd e
-through-numbered (p ∷ ps) [] rs e f = absurd e
 through-numbered (p ∷ ps) (q ∷ []) [] e f = absurd f
 through-numbered (p ∷ ps) (q ∷ []) (r ∷ []) e f = (f.0 ∙ e.0, e.1)
 through-numbered (p ∷ ps) (q ∷ []) (r ∷ s ∷ rs) e f = absurd f
-through-numbered (p ∷ ps) (q ∷ t ∷ qs) rs e f = absurd e
+through-numbered ps qs rs e f = absurd e
 
 abbrev AreUnmapped : List Popped → Type 0
 AreUnmapped ps = Each (λ q. is_popup_mapped q ≡ false) ps

@@ -12,13 +12,13 @@ use Rattle.spec_desktop.specs.declared.refusals.Refusal.{Refusal}
 use Rattle.spec_desktop.specs.Peer.{IsIdle, IsIdleAt, Peer, counted, ended, has_room, queued, removed, with_rest}
 use Rattle.spec_desktop.specs.Told.{Said, display_error, error_told}
 use Rattle.wl_surface.specs.Waiting.{Callback}
-use Rattle.spec_desktop.specs.PointerActions.{PointerAction, Leave, Enter, Motion, Button, Raise, MoveWindow, Dismiss, PointerInput, Settle, actions}
+use Rattle.spec_desktop.specs.PointerActions.{PointerAction, Leave, Enter, Motion, Button, Dismiss, PointerInput, Settle, actions}
 use Rattle.spec_desktop.specs.Windows.{Window}
 use Rattle.law_desktop.specs.Ample.{acts, answered, applied, applied_all, became, done, ends_and_settles, ends_first, or_slow, queued_to, refused, refused_or, served, served_all, served_at, served_by, settles, settles_all}
 use Rattle.law_desktop.specs.Ample.{taken, tells, tells_at, tells_unless}
 use Rattle.wl_shell.specs.Popups.{is_toplevel}
 use Rattle.wl_shell.specs.Positioner.{Positioner}
-use Rattle.wl_shell.specs.Shell.{Effect, Stays, Unconfigured, Configures, Maps, Unmaps, XdgSurface, xdg_at, xdg_of}
+use Rattle.wl_shell.specs.Shell.{Effect, Stays, Maps, Unmaps, XdgSurface, xdg_at, xdg_of}
 use Rattle.spec_desktop.specs.Changing.{Placing, placement_now, callbacks_of, changed_for, drawing, effect_placing, grab_allowed, grabbed, has_focus, in_rising_order, mode_set, popup_given_to, stacked_by, stacked_for}
 use Rattle.spec_desktop.specs.Changing.{tree_committed}
 use Rattle.spec_desktop.specs.Demand.{Demand, Asks, EndSurface, CommitTree, SetMode, GetPointer}
@@ -53,11 +53,9 @@ abbrev Leaves : List ℕ → ℕ → Desktop → Type 0
 Leaves rest c d = LeavesAt rest (client_at c d)
 
 place-leaves : (rest : List ℕ) (rs : List (Option Resident)) (k j : ℕ) (x : Option Resident) → LeavesAt rest (place rs j) → (k ≡ j → LeavesAt rest x) → LeavesAt rest (place (with_place k x rs) j)
-place-leaves rest [] k j x h f = h
 place-leaves rest (r ∷ rs) zero zero x h f = f refl
-place-leaves rest (r ∷ rs) zero (suc j) x h f = h
-place-leaves rest (r ∷ rs) (suc k) zero x h f = h
 place-leaves rest (r ∷ rs) (suc k) (suc j) x h f = place-leaves rest rs k j x h (λ e. f (ap (λ (n : ℕ). suc n) e))
+place-leaves rest rs k j x h f = h
 
 number-leaves : (rest : List ℕ) (clients : List (Option Resident)) (k c : ℕ) (x : Option Resident) → LeavesAt rest (client_in clients c) → (k ≡ c → LeavesAt rest x)
     → LeavesAt rest (client_in (with_number k x clients) c)
@@ -119,9 +117,8 @@ applied-leaves rest c windows (Enter t) m h = tells-leaves rest told_drawn _ t.c
 applied-leaves rest c windows (Motion time t) m h = tells-leaves rest (λ r. r) _ t.client c m (λ r. (refl, refl)) h
 applied-leaves rest c windows (Button time button pressed t) m h =
     tells-leaves rest (λ r. noted_if (has_pointers r) pressed r) _ t.client c m (λ r. noted-quiet (has_pointers r) pressed r) h
-applied-leaves rest c windows (Raise t) m h = h
-applied-leaves rest c windows (MoveWindow t x y) m h = h
 applied-leaves rest c windows (Dismiss k) m h = tells-leaves rest without_grabs _ k c m (λ r. (refl, refl)) h
+applied-leaves rest c windows action m h = h
 
 all-applied-leaves : (rest : List ℕ) (c : ℕ) (windows : List Window) (actions : List PointerAction) (m : Midstep) → Leaves rest c m.desktop
     → Leaves rest c (applied_all windows actions m).desktop
@@ -166,10 +163,7 @@ effect-quiet : (where_to : Placing) (surface : ℕ) (effect : Effect) (x : Optio
     × ((effect_placing where_to surface effect x r).peer.rest ≡ r.peer.rest)
 effect-quiet where_to surface effect None r = (refl, refl)
 effect-quiet where_to surface Stays (Some x) r = (refl, refl)
-effect-quiet where_to surface Unconfigured (Some x) r = (refl, refl)
-effect-quiet where_to surface Configures (Some x) r = (refl, refl)
-effect-quiet where_to surface Maps (Some x) r = (refl, refl)
-effect-quiet where_to surface Unmaps (Some x) r = (refl, refl)
+effect-quiet where_to surface effect x r = (refl, refl)
 
 mode-quiet : (link : ℕ) (b : Bool) (r : Resident) → ((mode_set link b r).peer.status ≡ r.peer.status) × ((mode_set link b r).peer.rest ≡ r.peer.rest)
 mode-quiet link true r = (refl, refl)
@@ -204,9 +198,7 @@ change-quiet c demand d r = (refl, refl)
 -- the clients aren't among what the stack and the pointer are
 pub stacked-by : (effect : Effect) (b : Bool) (c surface : ℕ) (d : Desktop) → (stacked_by effect b c surface d).clients ≡ d.clients
 stacked-by Maps true c surface d = refl
-stacked-by Maps false c surface d = refl
 stacked-by Unmaps true c surface d = refl
-stacked-by Unmaps false c surface d = refl
 stacked-by effect b c surface d = refl
 
 pub stacked-for : (c : ℕ) (demand : Demand) (r : Resident) (windows : List Window) (d : Desktop) → (stacked_for c demand r windows d).clients ≡ d.clients
@@ -282,10 +274,8 @@ short-within n c rest d short h = short-within-at n rest (client_at c d) short h
 
 -- a whole message has a size
 sized-by : (short ok cut : Bool) (o op n a b size : ℕ) → (if short then More else (if ok then (if cut then More else Message o op n) else Bad)) ≡ Message a b size → (ok ≡ true) × (n ≡ size)
-sized-by true ok cut o op n a b size e = absurd (cc)
-sized-by false false cut o op n a b size e = absurd (cc)
-sized-by false true true o op n a b size e = absurd (cc)
 sized-by false true false o op n a b size e = (refl, cc)
+sized-by short ok cut o op n a b size e = absurd (cc)
 
 is_size-some : (n : ℕ) → is_size n ≡ true → 1 ≤ n
 is_size-some n e = grind (arith, nat_tests)

@@ -70,9 +70,8 @@ applied-so windows (pointer.Enter t) m =
     (tells told_drawn (entered_surface m.desktop.pointer.place (focus_window (Some t) windows)) t.client m, tells-so _ _ t.client m, refl)
 applied-so windows (pointer.Motion time t) m = tells-so _ _ t.client m
 applied-so windows (pointer.Button time button pressed t) m = tells-so _ _ t.client m
-applied-so windows (pointer.Raise t) m = refl
-applied-so windows (pointer.MoveWindow t x y) m = refl
 applied-so windows (pointer.Dismiss c) m = tells-so _ _ c m
+applied-so windows action m = refl
 
 all-so : (windows : List Window) (actions : List PointerAction) (m : Midstep) → AppliesAll windows actions m (applied_all windows actions m)
 all-so windows [] m = refl

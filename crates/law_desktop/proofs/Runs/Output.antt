@@ -79,9 +79,8 @@ applies-still windows (pointer.Leave t) old new h = of-moving _ new h.2 ∙ tell
 applies-still windows (pointer.Enter t) old new h = of-moving _ new h.2 ∙ tells-still _ _ t.client old h.0 h.1
 applies-still windows (pointer.Motion time t) old new h = tells-still _ _ t.client old new h
 applies-still windows (pointer.Button time button pressed t) old new h = tells-still _ _ t.client old new h
-applies-still windows (pointer.Raise t) old new h = of-moving _ new h
-applies-still windows (pointer.MoveWindow t x y) old new h = of-moving _ new h
 applies-still windows (pointer.Dismiss c) old new h = tells-still _ _ c old new h
+applies-still windows action old new h = of-moving _ new h
 
 all-still : (windows : List Window) (actions : List PointerAction) (old new : Midstep) → AppliesAll windows actions old new → Still old new
 all-still windows [] old new h = of-moving old new h
@@ -115,8 +114,6 @@ last-same mid new h = ends-same (SettlesAll 32) (settles-same 32) mid.struck mid
 commit-same : (effect : Effect) (toplevel : Bool) (c surface : ℕ) (d : Desktop) → Same d (stacked_by effect toplevel c surface d)
 commit-same Maps true c surface d = refl
 commit-same Unmaps true c surface d = refl
-commit-same Maps false c surface d = refl
-commit-same Unmaps false c surface d = refl
 commit-same effect toplevel c surface d = refl
 
 stacked-same : (c : ℕ) (demand : Demand) (r : Resident) (windows : List Window) (d : Desktop) → Same d (stacked_for c demand r windows d)

@@ -14,11 +14,9 @@ number-same clients zero x r h = absurd (cc)
 number-same clients (suc k) x r h = place-same clients k x r h
 
 place-other : (rs : List (Option Resident)) (k j : ℕ) (x : Option Resident) → k ≢ j → place (with_place k x rs) j ≡ place rs j
-place-other [] k j x differ = refl
 place-other (r ∷ rs) zero zero x differ = absurd (differ refl)
-place-other (r ∷ rs) zero (suc j) x differ = refl
-place-other (r ∷ rs) (suc k) zero x differ = refl
 place-other (r ∷ rs) (suc k) (suc j) x differ = place-other rs k j x (λ e. differ (ap (λ (n : ℕ). suc n) e))
+place-other rs k j x differ = refl
 
 pub number-other : (clients : List (Option Resident)) (c other : ℕ) (x : Option Resident) → c ≢ other → client_in (with_number c x clients) other ≡ client_in clients other
 number-other clients c zero x differ = refl

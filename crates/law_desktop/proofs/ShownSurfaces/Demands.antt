@@ -26,7 +26,7 @@ use Rattle.wl_shell.specs.declared.stage.Stage.{Stage}
 use Rattle.wl_shell.specs.declared.stage.Stage.TheVariants as stage
 use Rattle.spec_desktop.specs.Stacking.{Owned, Standing, is_of, shows_buffer, with_mapped, without_surface_of}
 use Rattle.spec_desktop.specs.Windows.{Window}
-use Rattle.spec_desktop.specs.Ask.{Acknowledge, Ask, AskSurface, ConfigureAgain, CreateSurface, DestroyXdgSurface, EndObject, GetToplevel, GetXdgSurface, Ignore, Own}
+use Rattle.spec_desktop.specs.Ask.{Acknowledge, Ask, AskSurface, ConfigureAgain, CreateSurface, DestroyXdgSurface, GetToplevel, GetXdgSurface, Own}
 use Rattle.spec_desktop.specs.Changing.{Placing, changed_for, drawing, effect_placing, grab_allowed, grabbed, has_focus, in_rising_order, link_with_id, placement_now, popup_given_to, stacked_by, stacked_for}
 use Rattle.spec_desktop.specs.Changing.{toplevel_ended, tree_committed, unlinked_at, popup_repositioned}
 use Rattle.spec_desktop.specs.Demand.{AskFrame, Asks, CommitTree, Demand, EndPopup, EndSubsurface, EndSurface, EndToplevel, GetPointer, GetPopup, GetSubsurface, Grab, MakeCursor, Move, SetMode}
@@ -305,11 +305,9 @@ module _ (c : ℕ) (r : Resident) (d : Desktop) (is : IsRooted r) (fit : AllFit 
 
     by-stage : (s : Stage) → heeded_stage x.role ≡ Some s → (b : Bool) → will_show r x.surface ≡ b → (on_commit (Some s) b ≡ Unconfigured → ⊥) → Commits (on_commit (Some s) b)
     by-stage stage.Fresh live false shows other = configured stage.Fresh live refl (shown false shows)
-    by-stage stage.Fresh live true shows other = absurd (other refl)
     by-stage stage.Waiting live false shows other =
         still (table (is_toplevel (Some x)) (Some stage.Waiting)) (at-stage stage.Waiting live)
         (stood-at stage.Waiting live, λ mapped. absurd (true≢false (sym mapped)), λ waiting. shown false shows)
-    by-stage stage.Waiting live true shows other = absurd (other refl)
     by-stage stage.Ready live false shows other =
         still (table (is_toplevel (Some x)) (Some stage.Ready)) (at-stage stage.Ready live)
         (stood-at stage.Ready live, λ mapped. absurd (true≢false (sym mapped)), λ waiting. shown false shows)
@@ -318,6 +316,7 @@ module _ (c : ℕ) (r : Resident) (d : Desktop) (is : IsRooted r) (fit : AllFit 
     by-stage stage.Mapped live true shows other =
         still (table (is_toplevel (Some x)) (Some stage.Mapped)) (at-stage stage.Mapped live)
         (stood-at stage.Mapped live, λ mapped. shown true shows, λ waiting. absurd (true≢false (sym waiting)))
+    by-stage s live true shows other = absurd (other refl)
 
     -- one that isn't heeded
     idle : heeded_stage x.role ≡ None → Commits Stays
@@ -445,7 +444,6 @@ module _ (c : ℕ) (r : Resident) (d : Desktop) (is : IsRooted r) (fit : AllFit 
   ask-fits (Own action) windows allowed = own-fits action
   ask-fits (CreateSurface id version) windows allowed = with-surfaces (with_new id r.owned.surfaces) (made-show r.owned.shell id r.owned.surfaces)
   ask-fits (AskSurface id request) windows allowed = asked-fits id request
-  ask-fits (EndObject id) windows allowed = fit
   ask-fits (GetXdgSurface id version base surface) windows allowed =
       with-shell c r.owned d.standing fit (with_new_xdg id base surface r.owned.shell)
       (λ other. less-same _ _ (new-as (record { id = id; base = base; surface = surface; role = None; configures = []; since = 0 }) other r.owned.shell refl))
@@ -457,7 +455,7 @@ module _ (c : ℕ) (r : Resident) (d : Desktop) (is : IsRooted r) (fit : AllFit 
   ask-fits (ConfigureAgain xdg) windows allowed =
       with-shell c r.owned d.standing fit (with_xdg_change xdg (configuring r.peer.serial) r.owned.shell)
       (λ surface. less-changed xdg surface (configuring r.peer.serial) r.owned.shell (λ y. refl) (λ y. less-same _ _ refl))
-  ask-fits Ignore windows allowed = fit
+  ask-fits ask windows allowed = fit
 
   mode-fits : (link : ℕ) (b : Bool) (windows : List Window) → AfterDemand (SetMode link b) windows
   mode-fits link true windows =

@@ -15,7 +15,7 @@ use Rattle.wl_surface.specs.Trees.{committed_in, desynchronised_in, destroyed_in
 use Rattle.wl_surface.proofs.Coming.{history-without}
 use Rattle.law_desktop.proofs.TreeSteps.Commits.{asked_more, history-asked, role-keeps-all}
 use Rattle.wl_shell.specs.Positioner.{Positioner}
-use Rattle.wl_shell.specs.Shell.{Configures, Effect, Maps, Stays, Unconfigured, Unmaps, XdgSurface, xdg_at, xdg_of}
+use Rattle.wl_shell.specs.Shell.{Effect, Stays, XdgSurface, xdg_at, xdg_of}
 use Rattle.wl_shell.specs.Popups.{Popped, copying, is_configured, popup_at, repositioning}
 use Rattle.spec_desktop.specs.Ask.{Ask, AskSurface, CreateSurface, GetToplevel}
 use Rattle.spec_desktop.specs.Changing.{Placing, changed_for, drawing, effect_placing, grab_allowed, grabbed, has_focus, in_rising_order, link_with_id, mode_set, placement_now, popup_given_to}
@@ -118,10 +118,7 @@ effect-turned : (where_to : Placing) (id : ℕ) (effect : Effect) (x : Option Xd
     → AreTurned (effect_placing where_to id effect x r).owned.surfaces
 effect-turned where_to id effect None r is = is
 effect-turned where_to id Stays (Some x) r is = is
-effect-turned where_to id Unconfigured (Some x) r is = is
-effect-turned where_to id Configures (Some x) r is = is
-effect-turned where_to id Maps (Some x) r is = is
-effect-turned where_to id Unmaps (Some x) r is = is
+effect-turned where_to id effect x r is = is
 
 popup-turned : (id xdg parent : ℕ) (p : Positioner) (x : Option XdgSurface) (r : Resident) → AreTurned r.owned.surfaces → AreTurned (popup_given_to id xdg parent p x r).owned.surfaces
 popup-turned id xdg parent p None r is = is

@@ -130,8 +130,7 @@ module _ (r : Resident) where
   link-well object (Some l) (subsurface.SetPosition x y) = refl
   link-well object (Some l) (subsurface.PlaceAbove sibling) = placed-well object l.parent (PlaceAbove l.number) (beside r.owned.surfaces l sibling) (λ m. refl)
   link-well object (Some l) (subsurface.PlaceBelow sibling) = placed-well object l.parent (PlaceBelow l.number) (beside r.owned.surfaces l sibling) (λ m. refl)
-  link-well object (Some l) subsurface.SetSync = tt
-  link-well object (Some l) subsurface.SetDesync = tt
+  link-well object o request = tt
 
   -- ---- the pointer
 
@@ -144,10 +143,9 @@ module _ (r : Resident) where
 
   base-well : (object version : ℕ) (request : XdgWmBaseRequest) → IsWellSo r (base_demand r object version request)
   base-well object version base.Destroy = ask-well (list_any (λ x. x.base == object) r.owned.shell) _ _ (λ used. tt) (λ unused. tt)
-  base-well object version (base.CreatePositioner id) = tt
   base-well object version (base.GetXdgSurface id surface) =
       ask-well (is_foreign (role_of r surface) || is_some (xdg_of surface r.owned.shell)) _ _ (λ other. tt) (λ free. ask-well (has_any r surface) _ _ (λ full. tt) (λ none. tt))
-  base-well object version (base.Pong serial) = tt
+  base-well object version request = tt
 
   popup-well : (x : Xdg) (version id parent : ℕ) (p : Positioner) → IsWellSo r (popup_made r x version id parent p)
   popup-well x version id parent p =

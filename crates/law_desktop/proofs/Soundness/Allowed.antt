@@ -17,7 +17,7 @@ use Rattle.wl_surface.specs.Request.{Member, PlaceAbove, PlaceBelow}
 use Rattle.wl_surface.specs.Surfaces.{Link, link_at}
 use Rattle.wl_surface.specs.Trees.{is_bad_parent, is_too_deep}
 use Rattle.wl_shell.specs.Popups.{Popped, is_parent, is_popup_mapped, popup_at}
-use Rattle.wl_shell.specs.Shell.{Effect, Stays, Unconfigured, Configures, Maps, Unmaps, XdgSurface as Xdg, is_full, xdg_at, xdg_of, xdg_with}
+use Rattle.wl_shell.specs.Shell.{Effect, Configures, XdgSurface as Xdg, is_full, xdg_at, xdg_of, xdg_with}
 use Rattle.spec_desktop.specs.Demand.{Demand}
 use Rattle.spec_desktop.specs.Demanding.{committed_by, demand_by, demand_of, effect_of_commit, judge_all, moved_by_pointer, surface_demand, toplevel_asked, toplevel_destroyed}
 use Rattle.spec_desktop.specs.Desktop.{Resident, Subsurface}
@@ -44,12 +44,8 @@ use Rattle.spec_desktop.specs.declared.refusals.Refusal.{Refusal}
 -- ---- surfaces
 
 committed-allowed : (r : Resident) (o : Option Xdg) (object : ℕ) (effect : Effect) → Allows r (committed_by o object effect)
-committed-allowed r None object effect = tt
-committed-allowed r (Some x) object Unconfigured = tt
 committed-allowed r (Some x) object Configures = either r (is_full x.configures) _ _ (λ e. tt) (λ e. tt)
-committed-allowed r (Some x) object Stays = tt
-committed-allowed r (Some x) object Maps = tt
-committed-allowed r (Some x) object Unmaps = tt
+committed-allowed r o object effect = tt
 
 whole-allowed : (r : Resident) (b : Bool) (object : ℕ) (demand : Result Demand Refusal) → Allows r demand → Allows r (if_whole b object demand)
 whole-allowed r true object demand is = is
@@ -133,16 +129,12 @@ subsurface-allowed : (r : Resident) (object opcode : ℕ) (fields : List Field) 
     → Allows r (demand_by_link r object o (subsurface_request opcode fields))
 subsurface-allowed r object zero fields o is heard = heard.live
 subsurface-allowed r object (suc zero) fields None is heard = tt
-subsurface-allowed r object (suc zero) fields (Some l) is heard = tt
-subsurface-allowed r object (suc (suc zero)) fields None is heard = tt
 subsurface-allowed r object (suc (suc zero)) fields (Some l) is heard = above-allowed r object l (beside r.owned.surfaces l (word_in 0 fields)) (link-lives r object l is)
-subsurface-allowed r object (suc (suc (suc zero))) fields None is heard = tt
 subsurface-allowed r object (suc (suc (suc zero))) fields (Some l) is heard = below-allowed r object l (beside r.owned.surfaces l (word_in 0 fields)) (link-lives r object l is)
 subsurface-allowed r object (suc (suc (suc (suc zero)))) fields None is heard = tt
-subsurface-allowed r object (suc (suc (suc (suc zero)))) fields (Some l) is heard = tt
 subsurface-allowed r object (suc (suc (suc (suc (suc zero))))) fields None is heard = tt
-subsurface-allowed r object (suc (suc (suc (suc (suc zero))))) fields (Some l) is heard = tt
 subsurface-allowed r object (suc (suc (suc (suc (suc (suc opcode)))))) fields o is heard = absurd heard.kinds
+subsurface-allowed r object opcode fields o is heard = tt
 
 -- ---- the seat
 

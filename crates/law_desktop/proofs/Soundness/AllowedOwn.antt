@@ -90,8 +90,7 @@ full-allowed r changes action own = own-either r (nat_le 512 changes) _ _ (λ e.
 region-allowed : (r : Resident) (object : ℕ) (changes : Option ℕ) (request : WlRegionRequest) → IsObject WlRegion object r → AllowsOwn r (region_action object changes request)
 region-allowed r object None request live = tt
 region-allowed r object (Some changes) region.Destroy live = live
-region-allowed r object (Some changes) (region.Add x y width height) live = full-allowed r changes _ tt
-region-allowed r object (Some changes) (region.Subtract x y width height) live = full-allowed r changes _ tt
+region-allowed r object (Some changes) request live = full-allowed r changes _ tt
 
 created-allowed : (r : Resident) (object version id : ℕ) (size : ℤ) (o : Option StoreError) → IsNew id r → AllowsOwn r (pool_created object version id size o)
 created-allowed r object version id size None new = new

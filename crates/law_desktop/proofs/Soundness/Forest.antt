@@ -197,9 +197,8 @@ once-left same q (x ∷ xs) once = at (q x) (once-left same q xs once.1)
 
 member-turned : (a b : Member) → is_member a b ≡ false → is_member b a ≡ false
 member-turned Itself Itself e = e
-member-turned Itself (Child l) e = refl
-member-turned (Child k) Itself e = refl
 member-turned (Child k) (Child l) e = false_from_ne_true (l == k) (λ same. eqb-false k l e (sym (eqb-true l k same)))
+member-turned a b e = refl
 
 -- where nothing passes, and the member that comes doesn't, nothing does then
 none-above : (p : Member → Bool) (m at : Member) (xs : List Member) → p m ≡ false → list_any p xs ≡ false → list_any p (above m at xs) ≡ false

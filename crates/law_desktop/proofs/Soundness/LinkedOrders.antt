@@ -161,9 +161,8 @@ child-linked number child parent surface counting n all h e there = at (order-li
 
 turned : (m o : Member) → is_member m o ≡ true → is_member o m ≡ true
 turned Itself Itself e = e
-turned Itself (Child l) e = absurd (cc)
-turned (Child k) Itself e = absurd (cc)
 turned (Child k) (Child l) e = equal-numbers l k (sym (eqb-true k l e))
+turned m o e = absurd (cc)
 
 -- one more that is not there yet
 once-last : {X : Type 0} (same : X → X → Bool) (xs : List X) (x : X) → AreOnce same xs → list_any (λ y. same y x) xs ≡ false → AreOnce same (xs ++ x ∷ [])

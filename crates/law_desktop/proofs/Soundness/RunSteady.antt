@@ -7,7 +7,7 @@ use Rattle.spec_desktop.specs.declared.actions.Action.TheVariants.{DestroyBuffer
 use Rattle.spec_desktop.specs.Peer.{Peer, changed, removed}
 use Rattle.spec_desktop.specs.Used.{changed_with, has_used, keeps_store}
 use Rattle.wl_shell.specs.Positioner.{Positioner}
-use Rattle.wl_shell.specs.Shell.{Effect, Stays, Unconfigured, Configures, Maps, Unmaps, XdgSurface, xdg_at, xdg_of}
+use Rattle.wl_shell.specs.Shell.{Effect, Stays, XdgSurface, xdg_at, xdg_of}
 use Rattle.wl_surface.specs.Surfaces.{is_used}
 use Rattle.wl_surface.specs.Waiting.{Callback}
 use Rattle.spec_desktop.specs.Ask.{Ask, Own, GetToplevel}
@@ -49,10 +49,7 @@ callbacks-steady (callback ∷ gone) p = callbacks-steady gone (removed callback
 effect-steady : (where_to : Placing) (surface : ℕ) (effect : Effect) (x : Option XdgSurface) (r : Resident) → IsSteady r.peer (effect_placing where_to surface effect x r).peer
 effect-steady where_to surface effect None r = (refl, refl)
 effect-steady where_to surface Stays (Some x) r = (refl, refl)
-effect-steady where_to surface Unconfigured (Some x) r = (refl, refl)
-effect-steady where_to surface Configures (Some x) r = (refl, refl)
-effect-steady where_to surface Maps (Some x) r = (refl, refl)
-effect-steady where_to surface Unmaps (Some x) r = (refl, refl)
+effect-steady where_to surface effect x r = (refl, refl)
 
 mode-steady : (link : ℕ) (b : Bool) (r : Resident) → IsSteady r.peer (mode_set link b r).peer
 mode-steady link true r = (refl, refl)

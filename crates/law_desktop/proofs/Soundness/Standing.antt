@@ -33,9 +33,9 @@ use Rattle.spec_desktop.specs.Step.{asked_so_far, changed_by, toplevel_given}
 use Rattle.wl_shell.specs.Positioner.{Positioner}
 use Rattle.spec_desktop.specs.Objects.{Object, interface_number, is_of as is_object_of}
 use Rattle.wl_proto.specs.declared.interface.Interface.TheVariants.{XdgPopup, XdgToplevel}
-use Rattle.spec_desktop.specs.Ask.{Ask, Own, CreateSurface, AskSurface, EndObject, GetXdgSurface, DestroyXdgSurface, GetToplevel, Acknowledge, ConfigureAgain, Ignore}
-use Rattle.spec_desktop.specs.Demand.{Demand, Asks, EndSurface, AskFrame, CommitTree, GetSubsurface, EndSubsurface, SetMode, GetPointer, MakeCursor}
-use Rattle.spec_desktop.specs.Demand.{GetPopup, Grab, EndPopup, EndToplevel, Move}
+use Rattle.spec_desktop.specs.Ask.{Ask, GetXdgSurface, DestroyXdgSurface, GetToplevel, Acknowledge, ConfigureAgain}
+use Rattle.spec_desktop.specs.Demand.{Demand, Asks, CommitTree, SetMode, GetPointer}
+use Rattle.spec_desktop.specs.Demand.{GetPopup, Grab, EndPopup, EndToplevel}
 use Rattle.wl_shell.specs.Popups.{arrive, arriving, copying, is_configured, popup_at, repositioning, unmapped, waiting_in}
 use Rattle.wl_shell.specs.Shell.{Configure, awaiting, up_to}
 use Rattle.wl_shell.specs.Positioner.{Placed}
@@ -538,10 +538,6 @@ standing-repositioned where_to p (Some q) r tops stands =
 standing-asked :
     (c : ℕ) (ask : Ask) (r : Resident) (d : Desktop) → IsAsked r ask → HasObjects r → StandsSo r.owned.shell (toplevels_of c d)
     → StandsSo (changed_by ask r).owned.shell (toplevels_of c d)
-standing-asked c (Own action) r d is has stands = stands
-standing-asked c (CreateSurface id version) r d is has stands = stands
-standing-asked c (AskSurface id request) r d is has stands = stands
-standing-asked c (EndObject id) r d is has stands = stands
 standing-asked c (GetXdgSurface id version base surface) r d is has stands =
     standing-same r.owned.shell (with_new id base surface r.owned.shell) (toplevels_of c d) (λ other here. mapped-new id base surface other r.owned.shell here) stands
 standing-asked c (DestroyXdgSurface id) r d is has stands =
@@ -553,23 +549,17 @@ standing-asked c (Acknowledge xdg serial) r d is has stands =
 standing-asked c (ConfigureAgain xdg) r d is has stands =
     standing-same r.owned.shell (with_change xdg (configuring r.peer.serial) r.owned.shell) (toplevels_of c d)
     (λ other here. mapped-changed xdg (configuring r.peer.serial) r.owned.shell other (λ y. refl) (λ y there same role. role) here) stands
-standing-asked c Ignore r d is has stands = stands
+standing-asked c ask r d is has stands = stands
 
 -- What stands of a client is mapped, and stands once.
 pub standing-kept :
     (c : ℕ) (demand : Demand) (r : Resident) (windows : List Window) (d : Desktop) → IsAllowed r demand → HasObjects r → HasRoles r → StandsSo r.owned.shell (toplevels_of c d)
     → StandsSo (changed_for c demand r d).owned.shell (toplevels_of c (stacked_for c demand r windows d))
 standing-kept c (Asks ask) r windows d is has roles stands = standing-asked c ask r d is has stands
-standing-kept c (EndSurface id) r windows d is has roles stands = stands
-standing-kept c (AskFrame id version surface) r windows d is has roles stands = stands
 standing-kept c (CommitTree surface) r windows d is has roles stands = standing-committed c surface r d has.shell.0 stands
-standing-kept c (GetSubsurface id version child parent) r windows d is has roles stands = stands
-standing-kept c (EndSubsurface id) r windows d is has roles stands = stands
 standing-kept c (SetMode link true) r windows d is has roles stands = stands
-standing-kept c (SetMode link false) r windows d is has roles stands = stands
 standing-kept c (GetPointer id version) r windows d is has roles stands =
     subst (λ (o : Owned). StandsSo o.shell (toplevels_of c d)) (sym (drawing-owned (has_focus c d.pointer.focus) (record r { pointers = in_rising_order id r.pointers }))) stands
-standing-kept c (MakeCursor surface) r windows d is has roles stands = stands
 standing-kept c (GetPopup id version xdg parent p) r windows d is has roles stands = standing-popup-given id xdg parent p r (toplevels_of c d) has.shell.0 is.1 stands
 standing-kept c (Reposition xdg token p) r windows d is has roles stands =
     standing-repositioned (placement_now c r d) p (popup_at xdg r.owned.shell) r (toplevels_of c d) stands
@@ -578,4 +568,4 @@ standing-kept c (EndPopup id xdg) r windows d is has roles stands = standing-pop
 standing-kept c (EndToplevel id xdg top) r windows d is has roles stands =
     subst (λ surface. StandsSo (toplevel_ended id xdg r).owned.shell (of_client c (without_surface_of c surface d.standing))) (top-of id xdg top r.owned.shell has.shell.0 is.1 is.2)
     (standing-toplevel-ended c xdg (λ p. is_parent_of xdg p.popup) r.owned.shell d.standing has.shell.0 stands)
-standing-kept c (Move surface serial) r windows d is has roles stands = stands
+standing-kept c demand r windows d is has roles stands = stands

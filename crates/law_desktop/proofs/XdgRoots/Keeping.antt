@@ -11,7 +11,7 @@ use Rattle.wl_surface.specs.declared.role.Role.TheVariants.{Cursor as AsCursor, 
 use Rattle.wl_surface.specs.Surfaces.{Link, Surfaces, surface_at, with_change, with_new}
 use Rattle.wl_surface.specs.Trees.{committed_in, desynchronised_in, destroyed_in, linked, synchronised_in}
 use Rattle.wl_shell.specs.Positioner.{Positioner}
-use Rattle.wl_shell.specs.Shell.{Effect, Stays, Unconfigured, Configures, Maps, Unmaps, XdgSurface, xdg_at, xdg_of}
+use Rattle.wl_shell.specs.Shell.{Effect, Stays, XdgSurface, xdg_at, xdg_of}
 use Rattle.wl_shell.specs.Popups.{Popped, copying, is_configured, popup_at, repositioning}
 use Rattle.spec_desktop.specs.Stacking.{Standing}
 use Rattle.spec_desktop.specs.Ask.{Ask, CreateSurface, AskSurface, GetToplevel}
@@ -69,10 +69,7 @@ module _ (Holds : ℕ → Surfaces → List Subsurface → Type 0) (keeps : Keep
   effect-kept : (b : ℕ) (where_to : Placing) (surface : ℕ) (effect : Effect) (x : Option XdgSurface) (r : Resident) → By b r → By b (effect_placing where_to surface effect x r)
   effect-kept b where_to surface effect None r known = known
   effect-kept b where_to surface Stays (Some x) r known = known
-  effect-kept b where_to surface Unconfigured (Some x) r known = known
-  effect-kept b where_to surface Configures (Some x) r known = known
-  effect-kept b where_to surface Maps (Some x) r known = known
-  effect-kept b where_to surface Unmaps (Some x) r known = known
+  effect-kept b where_to surface effect x r known = known
 
   grab-kept : (b : ℕ) (taken : Bool) (xdg : ℕ) (r : Resident) → By b r → By b (grabbed taken xdg r)
   grab-kept b true xdg r known = known

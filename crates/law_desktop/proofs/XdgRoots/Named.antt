@@ -41,7 +41,7 @@ use Rattle.wl_surface.specs.Surfaces.{Link, Surfaces}
 use Rattle.wl_surface.specs.Trees.{is_bad_parent, is_too_deep}
 use Rattle.wl_shell.specs.Popups.{Popped, is_parent, is_popup_mapped, popup_at, is_configured}
 use Rattle.wl_shell.specs.Positioner.{is_complete, Positioner}
-use Rattle.wl_shell.specs.Shell.{Effect, Stays, Unconfigured, Configures, Maps, Unmaps, XdgSurface as Xdg, answers_states, is_full, is_waiting, stage_of, xdg_at, xdg_of, xdg_with}
+use Rattle.wl_shell.specs.Shell.{Effect, Configures, XdgSurface as Xdg, answers_states, is_full, is_waiting, stage_of, xdg_at, xdg_of, xdg_with}
 use Rattle.spec_desktop.specs.Ask.{Ask, AskSurface, owns}
 use Rattle.spec_desktop.specs.Demand.{Demand, Asks, GetSubsurface}
 use Rattle.spec_desktop.specs.Demanding.{base_demand, committed_by, compositor_demand, demand_by, demand_of, demands, effect_of_commit, judge_all, moved_by_pointer, own_demand, surface_demand}
@@ -126,26 +126,18 @@ below-named r object parent number (Some member) = tt
 
 subsurface-named : (r : Resident) (object : ℕ) (o : Option Link) → link_of_subsurface object r ≡ o → (request : WlSubsurfaceRequest) → AllNamed r (demand_by_link r object o request)
 subsurface-named r object o is subsurface.Destroy = tt
-subsurface-named r object None is (subsurface.SetPosition x y) = tt
-subsurface-named r object None is (subsurface.PlaceAbove sibling) = tt
-subsurface-named r object None is (subsurface.PlaceBelow sibling) = tt
 subsurface-named r object None is subsurface.SetSync = tt
 subsurface-named r object None is subsurface.SetDesync = tt
 subsurface-named r object (Some l) is (subsurface.SetPosition x y) = link-lives r object l is
 subsurface-named r object (Some l) is (subsurface.PlaceAbove sibling) = above-named r object l.parent l.number (beside r.owned.surfaces l sibling)
 subsurface-named r object (Some l) is (subsurface.PlaceBelow sibling) = below-named r object l.parent l.number (beside r.owned.surfaces l sibling)
-subsurface-named r object (Some l) is subsurface.SetSync = tt
-subsurface-named r object (Some l) is subsurface.SetDesync = tt
+subsurface-named r object o is request = tt
 
 -- ---- surfaces
 
 committed-named : (r : Resident) (o : Option Xdg) (object : ℕ) (effect : Effect) → AllNamed r (committed_by o object effect)
-committed-named r None object effect = tt
-committed-named r (Some x) object Unconfigured = tt
 committed-named r (Some x) object Configures = either r (is_full x.configures) _ _ tt tt
-committed-named r (Some x) object Stays = tt
-committed-named r (Some x) object Maps = tt
-committed-named r (Some x) object Unmaps = tt
+committed-named r o object effect = tt
 
 -- where the buffer is whole, as without that
 whole-named : (r : Resident) (b : Bool) (object : ℕ) (judged : Result Demand Refusal) → AllNamed r judged → AllNamed r (if_whole b object judged)
@@ -179,10 +171,9 @@ pointer-named r object (pointer.SetCursor serial surface x y) =
 
 base-named : (r : Resident) (object version : ℕ) (request : XdgWmBaseRequest) → AllNamed r (base_demand r object version request)
 base-named r object version base.Destroy = ask-either r (list_any (λ x. x.base == object) r.owned.shell) _ _ tt tt
-base-named r object version (base.CreatePositioner id) = tt
 base-named r object version (base.GetXdgSurface id surface) =
     ask-either r (is_foreign (role_of r surface) || is_some (xdg_of surface r.owned.shell)) _ _ tt (ask-either r (has_any r surface) _ _ tt tt)
-base-named r object version (base.Pong serial) = tt
+base-named r object version request = tt
 
 xdg-named : (r : Resident) (o : Option Xdg) (version : ℕ) (request : XdgSurfaceRequest) → AllNamed r (xdg_asked r o version request)
 xdg-named r None version request = tt

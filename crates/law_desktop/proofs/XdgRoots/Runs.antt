@@ -56,11 +56,9 @@ IsEither now put was = (now ≡ put) ⊎ (now ≡ was)
 
 place-either : (rs : List (Option Resident)) (k n : ℕ) (x : Option Resident) → IsEither (place (with_place k x rs) n) x (place rs n)
 unfolding IsEither
-place-either [] k n x = inr refl
 place-either (r ∷ rs) zero zero x = inl refl
-place-either (r ∷ rs) zero (suc n) x = inr refl
-place-either (r ∷ rs) (suc k) zero x = inr refl
 place-either (r ∷ rs) (suc k) (suc n) x = place-either rs k n x
+place-either rs k n x = inr refl
 
 number-either : (rs : List (Option Resident)) (a c : ℕ) (x : Option Resident) → IsEither (client_in (with_number a x rs) c) x (client_in rs c)
 unfolding IsEither

@@ -125,9 +125,8 @@ links-joined child parent t =
 -- who is there already adds nobody
 is-itself : (at m : Member) → is_member at m ≡ true → at ≡ m
 is-itself Itself Itself e = refl
-is-itself Itself (Child k) e = absurd (cc)
-is-itself (Child l) Itself e = absurd (cc)
 is-itself (Child l) (Child k) e = ap (λ n. Child n) (eqb-true l k e)
+is-itself at m e = absurd (cc)
 
 any-there : (l : ℕ) (c : Member) (ms : List Member) → list_any (is_member c) ms ≡ true → (is_member (Child l) c || list_any (is_member (Child l)) ms) ≡ list_any (is_member (Child l)) ms
 any-there l c ms there = at (is_member (Child l) c) refl

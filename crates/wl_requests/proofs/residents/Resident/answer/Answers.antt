@@ -82,8 +82,7 @@ compositor-stays old r object version (compositor.CreateRegion id) = refl
 seat-stays : {A : Type 0} (old : Kept A) (r : Resident) (object version : ℕ) (request : WlSeatRequest)
     → StacksSo old r (demand_of r object version (wl_seat_request request)) Stays
 seat-stays old r object version (seat.GetPointer id) = refl
-seat-stays old r object version (seat.GetKeyboard id) = tt
-seat-stays old r object version (seat.GetTouch id) = tt
+seat-stays old r object version request = tt
 
 -- ---- what is answered
 

@@ -24,7 +24,6 @@ touch-same : {A : Type 0} (k : Kind) (object target : ℕ) (v w : Kept A) (touch
 touch-same (kind.Subsurface subsurface.Destroy) object target v w touch subs owned h = rw (subs, owned) h
 touch-same (kind.Subsurface subsurface.SetDesync) object target v w touch subs owned h = rw (subs, owned) h
 touch-same (kind.Surface surface.Commit) object target v w touch subs owned h = h
-touch-same (kind.Surface surface.Destroy) object target v w touch subs owned h = h
 touch-same (kind.Popup popup.Destroy) object target v w touch subs owned h = h
 touch-same k object target v w touch subs owned h = h
 

@@ -44,7 +44,6 @@ ignored old new c r d object x toplevel.SetMaximized stays still h = absurd (sti
 ignored old new c r d object x toplevel.UnsetMaximized stays still h = absurd (still refl)
 ignored old new c r d object x (toplevel.SetFullscreen output) stays still h = absurd (still refl)
 ignored old new c r d object x toplevel.UnsetFullscreen stays still h = absurd (still refl)
-ignored old new c r d object x (toplevel.Move seat serial) stays still h = h
 ignored old new c r d object x request stays still h = h
 
 pub returns-in-Nothing-clause-answers : goal.returns-in-Nothing-clause-answers
