@@ -1,3 +1,4 @@
+pub mod Allowed
 pub mod Finds
 pub mod Passing
 pub mod Peers

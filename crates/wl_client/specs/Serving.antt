@@ -11,11 +11,12 @@ use Rattle.wl_proto.specs.Messages.{Message, request_message}
 use Rattle.wl_proto.specs.declared.request.Request.{Request}
 use Rattle.wl_wire.specs.Wire.{split_of}
 use Rattle.wl_surface.specs.Slots.{IsAny, Numbered, Slots, StandForAll, has_at}
+use Rattle.wl_shell.specs.Settings.{is_allowed}
 use Rattle.wl_table.specs.Objects.{Held, HoldsAt, entry_of}
 use Rattle.wl_table.specs.declared.entry.Entry.{Entry}
 use Rattle.spec_desktop.specs.declared.actions.Action.{Action}
 use Rattle.spec_desktop.specs.declared.actions.Action.TheVariants.{GetRegistry, Bind, CreateRegion, DestroyRegion, CreatePool, CreateBuffer}
-use Rattle.spec_desktop.specs.declared.actions.Action.TheVariants.{DestroyPool, DestroyBuffer, CreatePositioner, DestroyPositioner}
+use Rattle.spec_desktop.specs.declared.actions.Action.TheVariants.{DestroyPool, DestroyBuffer, CreatePositioner, SetPositioner, DestroyPositioner}
 use Rattle.spec_desktop.specs.declared.cause.Cause.{Cause}
 use Rattle.spec_desktop.specs.declared.cause.Cause.TheVariants.{Protocol, Memory, Slow}
 use Rattle.spec_desktop.specs.declared.refusals.ErrorCode.TheVariants.{InvalidMethod}
@@ -70,6 +71,11 @@ AreUsed slots used = (all : Numbered) × StandForAll slots all × ((number : ℕ
 abbrev pub ActsWith : (ℕ → Bool) → Action → Peer → Peer → Type 0
 ActsWith used action old new = WantsOr (takes_memory action) (Queues (answers_to old.output action) (changed_with used action old) new) old
     new
+
+-- what is set of a positioner is allowed; all else may be done anyway
+abbrev pub may_be_done : Action → Bool
+may_be_done (SetPositioner id setting) = is_allowed setting
+may_be_done action = true
 
 -- a message is answered, or refused
 abbrev pub AnswersWith : (ℕ → Bool) → Result Action Refusal → Peer → Peer → Type 0

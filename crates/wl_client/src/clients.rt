@@ -59,7 +59,7 @@ impl<A: Allocator> Model for Client<A> {
 impl<A: Allocator + Copy> Client<A> {
     ghost use Rattle.spec_desktop.specs.Peer.{Peer, ended, newcomer, Queues, Errs, LacksMemory, WantsOr, Acts, counted, made, removed, all_removed, left_by, released, sent_by, stored_by};
     ghost use Rattle.spec_desktop.specs.Objects.{entry_at_version, held_at, object_of};
-    ghost use Rattle.wl_client.specs.Serving.{ChangesTable, EndsBy, HoldsWithout};
+    ghost use Rattle.wl_client.specs.Serving.{ChangesTable, EndsBy, HoldsWithout, may_be_done};
     ghost use Rattle.wl_client.specs.View.{cleared};
     ghost use Rattle.spec_desktop.specs.Stored.{stored};
     ghost use Rattle.wl_table.specs.Objects.{Finds, HoldsAt, entry_of};
@@ -314,6 +314,7 @@ impl<A: Allocator + Copy> Client<A> {
 
     /// Does what an accepted message asks.
     pub(crate) fn act(&mut self, action: Action)
+        requires allowed { may_be_done action ≡ true }
         ensures acts { (p : Peer) → IsPeer self.old p → (q : Peer) × Acts action (counted p) q × IsPeer self.new q }
         ensures table { self.new.ended ≡ None → ChangesTable action self.old.objects self.new.objects }
         ensures rest { length self.new.rest ≤ length self.old.rest }

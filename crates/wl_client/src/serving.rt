@@ -2,7 +2,7 @@
 
 ghost use Rattle.std.specs.Prelude.{ℕ, Bool, ◌≡◌, ◌≤◌, ◌<◌, is_some, length, true, false, None};
 ghost use Rattle.spec_desktop.specs.Peer.{Errs, IsIdleAt, Peer, counted};
-ghost use Rattle.wl_client.specs.Serving.{ActsWith, AreUsed, ChangesTable, EndsSo, IsNext, IsOwnMessage, KeepsSurfaces, PassesTo, ServesWith, was_taken};
+ghost use Rattle.wl_client.specs.Serving.{ActsWith, AreUsed, ChangesTable, EndsSo, IsNext, IsOwnMessage, KeepsSurfaces, PassesTo, ServesWith, may_be_done, was_taken};
 
 use crate::clients::Client;
 use crate::first_message::First;
@@ -36,6 +36,7 @@ impl<A: Allocator + Copy> Client<A> {
 
     /// Does what an accepted message asks.
     fn act_with(&mut self, action: Action, surfaces: &SurfaceStates<A>)
+        requires allowed { may_be_done action ≡ true }
         ensures acts { (used : ℕ → Bool) → AreUsed surfaces.now used → (p : Peer) → IsPeer self.old p
             → (q : Peer) × ActsWith used action (counted p) q × IsPeer self.new q }
         ensures table { self.new.ended ≡ None → ChangesTable action self.old.objects self.new.objects }

@@ -1,8 +1,9 @@
 //! The requests of xdg_positioner, the rules by which a popup is placed beside its parent
 //! (xdg-shell.xml, xdg_positioner).
 
-ghost use Rattle.std.specs.Prelude.{◌≡◌, ◌≤◌, length};
+ghost use Rattle.std.specs.Prelude.{◌≡◌, ◌≤◌, true, length};
 ghost use Rattle.spec_desktop.specs.Judgement.{positioner_action, set_if_allowed};
+ghost use Rattle.wl_shell.specs.Settings.{is_allowed};
 
 use crate::clients::Client;
 use spec_desktop::{Action, ErrorCode, Refusal};
@@ -75,8 +76,9 @@ impl<A: Allocator + Copy> Client<A> {
         }
     }
 
-    /// Sets this of a positioner.
+    /// Sets this, which is allowed, of a positioner.
     pub(crate) fn set_positioner(&mut self, id: u32, setting: &Setting)
+        requires allowed { is_allowed setting.now ≡ true }
         ensures acts { (p : Peer) → IsPeer self.old p → (q : Peer) × Acts (SetPositioner id setting.now) p q × IsPeer self.new q }
         ensures table { self.new.ended ≡ None → self.new.objects ≡ self.old.objects }
         ensures rest { length self.new.rest ≤ length self.old.rest }
@@ -84,7 +86,8 @@ impl<A: Allocator + Copy> Client<A> {
         let Some(positioner) = self.positioners.get_mut(&id) else {
             return;
         };
-        positioner.apply(setting);
+        // It is allowed, so it is set.
+        let _answer = positioner.set(setting);
     }
 
     /// Removes a positioner.

@@ -101,7 +101,7 @@ impl Positioner {
     }
 
     /// Puts this in place of what was set before, whether or not it is allowed.
-    pub fn apply(&mut self, setting: &Setting)
+    fn apply(&mut self, setting: &Setting)
         ensures { self.new ≡ with_setting setting.now self.old }
     {
         match *setting {

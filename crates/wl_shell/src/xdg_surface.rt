@@ -65,7 +65,7 @@ fn forget_first(configures: &mut ArrayVec<Configure, MOST_WAITING>, count: usize
 
 impl XdgSurface {
     /// A new one without a role object.
-    pub fn new(id: u32, base: u32) -> Self
+    pub(crate) fn new(id: u32, base: u32) -> Self
         ensures { result ≡ first_kept id base }
     {
         XdgSurface {
@@ -179,7 +179,7 @@ impl XdgSurface {
     ///
     /// The first of these; each changes nothing. `AlreadyConstructed` if it has a role object,
     /// `Role` if its surface has another role.
-    pub fn get_toplevel(&mut self, id: u32, has_other_role: bool) -> Result<(), ShellError>
+    pub(crate) fn get_toplevel(&mut self, id: u32, has_other_role: bool) -> Result<(), ShellError>
         ensures answer { result ≡ toplevel_answer has_other_role (Some self.old) }
         ensures ok { OnOk result (self.new ≡ kept_toplevel id self.old) }
         ensures err { OnErr result (self.new ≡ self.old) }
@@ -201,7 +201,7 @@ impl XdgSurface {
     /// - `Role`, if its surface has another role;
     /// - `InvalidPopupParent`, if there is no such parent;
     /// - `InvalidPositioner`, if the positioner isn't complete.
-    pub fn get_popup(
+    pub(crate) fn get_popup(
         &mut self,
         id: u32,
         parent: Option<u32>,
@@ -232,7 +232,7 @@ impl XdgSurface {
     ///
     /// The first of these; each changes nothing. `NotConstructed` if it has no role object,
     /// `InvalidSize` if a side isn't positive.
-    pub fn ask_geometry(&mut self, rect: Rect) -> Result<(), ShellError>
+    pub(crate) fn ask_geometry(&mut self, rect: Rect) -> Result<(), ShellError>
         ensures answer { result ≡ geometry_answer rect (Some self.old) }
         ensures ok { OnOk result (self.new ≡ kept_asking rect self.old) }
         ensures err { OnErr result (self.new ≡ self.old) }
@@ -255,7 +255,7 @@ impl XdgSurface {
     ///
     /// The first of these; each changes nothing. `NotConstructed` if it has no role object,
     /// `InvalidSerial` if no configure of this serial waits.
-    pub fn acknowledge(&mut self, serial: u32) -> Result<(), ShellError>
+    pub(crate) fn acknowledge(&mut self, serial: u32) -> Result<(), ShellError>
         ensures answer { result ≡ acknowledgement_answer serial (Some self.old) }
         ensures ok { OnOk result (self.new ≡ kept_acknowledging serial self.old) }
         ensures err { OnErr result (self.new ≡ self.old) }
@@ -439,7 +439,7 @@ impl XdgSurface {
     ///
     /// Each changes nothing. `UnconfiguredBuffer` if the surface has a buffer and no configure was
     /// acknowledged; `TooMany` if a configure would be sent and 64 of them wait.
-    pub fn commit(
+    pub(crate) fn commit(
         &mut self,
         has_buffer: bool,
         bounds: Rect,
@@ -461,7 +461,7 @@ impl XdgSurface {
     /// # Errors
     ///
     /// `TooMany` if a configure would be sent and 64 of them wait; nothing changes.
-    pub fn configure(&mut self, serial: u32) -> Result<bool, ShellError>
+    pub(crate) fn configure(&mut self, serial: u32) -> Result<bool, ShellError>
         ensures answer { result ≡ configure_answer (Some self.old) }
         ensures ok { IfOk result (λ is_sent. self.new ≡ kept_configured is_sent serial self.old) }
         ensures err { OnErr result (self.new ≡ self.old) }
@@ -513,7 +513,7 @@ impl XdgSurface {
     ///
     /// The first of these; each changes nothing. `TooMany` if a configure would be sent and 64 of
     /// them wait; `InvalidPositioner` if the positioner isn't complete.
-    pub fn reposition(
+    pub(crate) fn reposition(
         &mut self,
         positioner: &Positioner,
         bounds: Rect,
@@ -542,7 +542,7 @@ impl XdgSurface {
     /// # Errors
     ///
     /// `InvalidGrab` if the popup is mapped; nothing changes.
-    pub fn grab(&mut self, is_allowed: bool) -> Result<bool, ShellError>
+    pub(crate) fn grab(&mut self, is_allowed: bool) -> Result<bool, ShellError>
         ensures answer { result ≡ grab_answer is_allowed (Some self.old) }
         ensures ok { IfOk result (λ is_taken. self.new ≡ kept_grabbing is_taken self.old) }
         ensures err { OnErr result (self.new ≡ self.old) }
@@ -560,7 +560,7 @@ impl XdgSurface {
     }
 
     /// Dismisses its popup, if it has one. That has no grab any more.
-    pub fn dismiss(&mut self)
+    pub(crate) fn dismiss(&mut self)
         ensures { self.new ≡ kept_changed dismiss self.old }
     {
         self.change(&PopupChange::Dismiss);
@@ -568,7 +568,7 @@ impl XdgSurface {
 
     /// The toplevel of the xdg_surface with this id goes. If that is the parent of its popup, the
     /// popup has no parent any more.
-    pub fn orphan(&mut self, xdg_surface: u32)
+    pub(crate) fn orphan(&mut self, xdg_surface: u32)
         ensures { self.new ≡ kept_changed (orphan xdg_surface) self.old }
     {
         self.change(&PopupChange::Orphan(xdg_surface));
@@ -576,7 +576,7 @@ impl XdgSurface {
 
     /// xdg_toplevel.destroy or xdg_popup.destroy: its role object goes, and what was asked is
     /// forgotten.
-    pub fn destroy_role(&mut self)
+    pub(crate) fn destroy_role(&mut self)
         ensures { self.new ≡ kept_without_role self.old }
     {
         self.role = None;
