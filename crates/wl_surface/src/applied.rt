@@ -29,9 +29,11 @@ pub struct Applied<A: Allocator> {
 /// A surface whose state was applied, or which is gone and showed a buffer. `rects` is the damage
 /// that was applied, of the surface and of its buffer. It is in surface pixels, and may pass the
 /// surface's edges. More than 1,024 rectangles damage all of it (wayland.xml, wl_surface.damage,
-/// damage_buffer). `whole` says that the surface changes beside its damage. Its size, transform,
-/// scale, mapping, or position plus offset differs, or the order of the mapped windows of its tree
-/// does. A root counts as mapped while it has a buffer.
+/// damage_buffer).
+///
+/// `whole` says that the surface changes beside its damage. Its size, transform, scale, mapping, or
+/// position plus offset differs, or the order of the mapped windows of its tree does. A root counts
+/// as mapped while it has a buffer.
 #[derive(Drop)]
 pub struct Change<A: Allocator> {
     pub surface: SurfaceNo,

@@ -27,8 +27,8 @@ use crate::surfaces::Surfaces;
 use crate::tree::{add_freed, apply_each, below, shown_of};
 use std::alloc::{AllocError, Allocator};
 
-/// What a call finds before it applies a tree, while nothing has changed yet: the tree's surfaces,
-/// what is seen of them, the buffers that they show, and room for what is told.
+/// What a call finds before it applies a tree, while nothing has changed yet. These are the tree's
+/// surfaces, what is seen of them, the buffers that they show, and room for what is told.
 #[derive(Drop)]
 pub(crate) struct Room<A: Allocator> {
     pub(crate) below: Vec<SurfaceNo, A>,
