@@ -16,6 +16,7 @@ use Rattle.wl_recording.specs.declared.pointer.PointerLine.{PointerLine}
 use Rattle.mio.specs.declared.net.uds.stream.UnixStream.{UnixStream}
 use Rattle.wl_program.specs.Folder.{FolderView, folder_files, new_folder}
 use Rattle.wl_server.specs.Acting.{InTurn, IsServed, Stretch, Takes, Then}
+use Rattle.wl_server.specs.Recorded.{RecordedView}
 use Rattle.wl_server.specs.Telling.{IsToldOf, Tells, gathered, pictured, reported}
 use Rattle.wl_server.proofs.Taking.{InTurn-more, InTurn-zero, Takes-both, Takes-weaker, went-none}
 use Rattle.wl_server.proofs.Telling.{Tells-weaker}
@@ -35,8 +36,8 @@ use Rattle.wl_program.specs.Steps.{IsStep, IsViewedStep, StartsStep}
 use Rattle.wl_program.specs.Serving.{AreTurns, AreViewedTurns, BeginsTurns, IsOfPointer, IsServedSo, ServedAs, ServedTurns, ServedViewed, begun_of, begun_viewed, moment_of, output_of, socket_ways, stage_of}
 
 -- what a turn told, once it is flushed
-pub turn-told : (P : Stretch) (old new : SessionView) (report told flushed images imaged shown : Option (List ℕ)) → IsServed P (IsToldOf report told images imaged) old new
-    → Keeps told flushed → Keeps imaged shown → Tells P old new report flushed images shown
+pub turn-told : {Writer : Type 0} {contents : Writer → Option (List ℕ)} (P : Stretch) (old new : RecordedView Writer) (report told flushed images imaged shown : Option (List ℕ)) → IsServed contents P (IsToldOf report told images imaged) old new
+    → Keeps told flushed → Keeps imaged shown → Tells contents P old new report flushed images shown
 turn-told P old new report told flushed images imaged shown served keeps holds = λ d agrees.
     let s = served d agrees in (
       s.0,
@@ -46,7 +47,7 @@ turn-told P old new report told flushed images imaged shown served keeps holds =
     )
 
 -- what a turn that was begun took
-pub turn-begun : (P : Stretch) (old new : SessionView) → IsServed P (λ events. ⊤) old new → Takes P old new
+pub turn-begun : {Writer : Type 0} {contents : Writer → Option (List ℕ)} (P : Stretch) (old new : RecordedView Writer) → IsServed contents P (λ events. ⊤) old new → Takes contents P old new
 turn-begun P old new served = λ d agrees. let s = served d agrees in (s.0, s.1, s.2)
 
 -- ---- turns at a rate, one after another
@@ -54,64 +55,64 @@ turn-begun P old new served = λ d agrees. let s = served d agrees in (s.0, s.1,
 abbrev pub TurnAt : {H C S : Type 0} → Ways H C → Files S → Option paced.Rate → ℕ → Serving H C S → Serving H C S → Stretch
 TurnAt w files rate n = IsStep w files rate (time_of (hertz_of rate) n)
 
-pub turns-none : {H C S : Type 0} (w : Ways H C) (files : Files S) (rate : Option paced.Rate) (from : Serving H C S) (v : SessionView) (report images : Option (List ℕ))
-    → Tells (InTurn (TurnAt w files rate) 0 from from) v v report report images images
+pub turns-none : {H C S : Type 0} {Writer : Type 0} {contents : Writer → Option (List ℕ)} (w : Ways H C) (files : Files S) (rate : Option paced.Rate) (from : Serving H C S) (v : RecordedView Writer) (report images : Option (List ℕ))
+    → Tells contents (InTurn (TurnAt w files rate) 0 from from) v v report report images images
 turns-none w files rate from v report images = λ d agrees.
-    ([], went-none v v d refl agrees, InTurn-zero (TurnAt w files rate) from (moment d v), (Appends-nil report, Appends-nil images))
+    ([], went-none v v d refl agrees, InTurn-zero (TurnAt w files rate) from (moment d v.session), (Appends-nil report, Appends-nil images))
 
-pub turns-more : {H C S : Type 0} (w : Ways H C) (files : Files S) (rate : Option paced.Rate) (n time : ℕ) (from between to : Serving H C S) (old mid new : SessionView)
+pub turns-more : {H C S : Type 0} {Writer : Type 0} {contents : Writer → Option (List ℕ)} (w : Ways H C) (files : Files S) (rate : Option paced.Rate) (n time : ℕ) (from between to : Serving H C S) (old mid new : RecordedView Writer)
     (x y z i j k : Option (List ℕ)) → time ≡ time_of (hertz_of rate) (n + 1)
-    → Tells (InTurn (TurnAt w files rate) n from between) old mid x y i j → Tells (IsStep w files rate time between to) mid new y z j k
-    → Tells (InTurn (TurnAt w files rate) (n + 1) from to) old new x z i k
-turns-more w files rate n time from between to old mid new x y z i j k is first next =
-    let own : Tells (TurnAt w files rate (n + 1) between to) mid new y z j k = subst (λ (t : ℕ). Tells (IsStep w files rate t between to) mid new y z j k) is next in
+    → Tells contents (InTurn (TurnAt w files rate) n from between) old mid x y i j → Tells contents (IsStep w files rate time between to) mid new y z j k
+    → Tells contents (InTurn (TurnAt w files rate) (n + 1) from to) old new x z i k
+turns-more {H} {C} {S} {Writer} {contents} w files rate n time from between to old mid new x y z i j k is first next =
+    let own : Tells contents (TurnAt w files rate (n + 1) between to) mid new y z j k = subst (λ (t : ℕ). Tells contents (IsStep w files rate t between to) mid new y z j k) is next in
     Tells-weaker (Then (InTurn (TurnAt w files rate) n) (TurnAt w files rate (n + 1)) from to) (InTurn (TurnAt w files rate) (n + 1) from to) old new x z i k
     (Tells-both (InTurn (TurnAt w files rate) n) (TurnAt w files rate (n + 1)) from between to old mid new x y z i j k first own)
-    (λ d e a es ad ae runs then. InTurn-more (TurnAt w files rate) n from to (moment d old) a es (moment e new) then)
+    (λ d e a es ad ae runs then. InTurn-more (TurnAt w files rate) n from to (moment d old.session) a es (moment e new.session) then)
 
-pub turns-all : {H C S : Type 0} (w : Ways H C) (files : Files S) (rate : Option paced.Rate) (turns : Option ℕ) (n : ℕ) (from to : Serving H C S) (old new : SessionView)
+pub turns-all : {H C S : Type 0} {Writer : Type 0} {contents : Writer → Option (List ℕ)} (w : Ways H C) (files : Files S) (rate : Option paced.Rate) (turns : Option ℕ) (n : ℕ) (from to : Serving H C S) (old new : RecordedView Writer)
     (x y i j : Option (List ℕ)) → n ≡ count_of turns
-    → Tells (InTurn (TurnAt w files rate) n from to) old new x y i j → Tells (AreTurns w files rate turns from to) old new x y i j
-turns-all w files rate turns n from to old new x y i j all tells =
-    subst (λ (count : ℕ). Tells (InTurn (TurnAt w files rate) count from to) old new x y i j) all tells
+    → Tells contents (InTurn (TurnAt w files rate) n from to) old new x y i j → Tells contents (AreTurns w files rate turns from to) old new x y i j
+turns-all {H} {C} {S} {Writer} {contents} w files rate turns n from to old new x y i j all tells =
+    subst (λ (count : ℕ). Tells contents (InTurn (TurnAt w files rate) count from to) old new x y i j) all tells
 
 -- where the next one is only begun, it and those before it are
-pub turns-begun : {H C S : Type 0} (w : Ways H C) (files : Files S) (rate : Option paced.Rate) (turns : Option ℕ) (n time : ℕ) (from between to : Serving H C S) (old mid new : SessionView)
+pub turns-begun : {H C S : Type 0} {Writer : Type 0} {contents : Writer → Option (List ℕ)} (w : Ways H C) (files : Files S) (rate : Option paced.Rate) (turns : Option ℕ) (n time : ℕ) (from between to : Serving H C S) (old mid new : RecordedView Writer)
     (x y i j : Option (List ℕ)) → n < count_of turns → time ≡ time_of (hertz_of rate) (n + 1)
-    → Tells (InTurn (TurnAt w files rate) n from between) old mid x y i j → Takes (StartsStep w files rate time between to) mid new
-    → Takes (BeginsTurns w files rate turns from to) old new
-turns-begun w files rate turns n time from between to old mid new x y i j fewer is first next =
-    let own : Takes (StartsStep w files rate (time_of (hertz_of rate) (n + 1)) between to) mid new = subst (λ (t : ℕ). Takes (StartsStep w files rate t between to) mid new) is next in
-    let took : Takes (InTurn (TurnAt w files rate) n from between) old mid = λ d agrees. let s = first d agrees in (s.0, s.1, s.2) in
+    → Tells contents (InTurn (TurnAt w files rate) n from between) old mid x y i j → Takes contents (StartsStep w files rate time between to) mid new
+    → Takes contents (BeginsTurns w files rate turns from to) old new
+turns-begun {H} {C} {S} {Writer} {contents} w files rate turns n time from between to old mid new x y i j fewer is first next =
+    let own : Takes contents (StartsStep w files rate (time_of (hertz_of rate) (n + 1)) between to) mid new = subst (λ (t : ℕ). Takes contents (StartsStep w files rate t between to) mid new) is next in
+    let took : Takes contents (InTurn (TurnAt w files rate) n from between) old mid = λ d agrees. let s = first d agrees in (s.0, s.1, s.2) in
     Takes-weaker (Then (InTurn (TurnAt w files rate) n) (StartsStep w files rate (time_of (hertz_of rate) (n + 1))) from to) (BeginsTurns w files rate turns from to) old new
     (Takes-both (InTurn (TurnAt w files rate) n) (StartsStep w files rate (time_of (hertz_of rate) (n + 1))) from between to old mid new took own)
     (λ d e a es ad ae runs then. (n, fewer, then))
 
 -- turns of a new session are turns of a desktop without clients
-turns-taken : (serve : Serve) (lines : List PointerLine) (to : Serving ℕ UnixStream FolderView) (first old new : SessionView) (report told images imaged : Option (List ℕ)) → old ≡ first
+turns-taken : {Writer : Type 0} {contents : Writer → Option (List ℕ)} (serve : Serve) (lines : List PointerLine) (to : Serving ℕ UnixStream FolderView) (first : SessionView) (old new : RecordedView Writer) (report told images imaged : Option (List ℕ)) → old.session ≡ first
     → Agrees first.desk (empty (record { width = serve.size.width; height = serve.size.height })) → IsRightBut nobody (moment_of serve.size first)
     → IsFirst (output_of serve.size) (stage_of serve.size first)
     → (is_some serve.pointer ≡ false → lines ≡ [])
-    → Tells (AreTurns socket_ways folder_files serve.rate serve.turns (begun_of serve lines) to) old new report told images imaged → ServedTurns serve report told
-turns-taken serve lines to first old new report told images imaged same agrees right begins unpointed takes =
+    → Tells contents (AreTurns socket_ways folder_files serve.rate serve.turns (begun_of serve lines) to) old new report told images imaged → ServedTurns serve report told
+turns-taken {Writer} {contents} serve lines to first old new report told images imaged same agrees right begins unpointed takes =
     let P = AreTurns socket_ways folder_files serve.rate serve.turns (begun_of serve lines) to in
-    let from_first : Tells P first new report told images imaged = subst (λ (v : SessionView). Tells P v new report told images imaged) same takes in
-    let s = served-as P (IsToldOf report told images imaged) first new from_first
-    (empty (record { width = serve.size.width; height = serve.size.height })) agrees in
+    let fresh : Agrees old.session.desk (empty (record { width = serve.size.width; height = serve.size.height })) =
+    subst (λ (v : SessionView). Agrees v.desk (empty (record { width = serve.size.width; height = serve.size.height }))) (sym same) agrees in
+    let s = served-as P (IsToldOf report told images imaged) old new takes (empty (record { width = serve.size.width; height = serve.size.height })) fresh in
     record {
-      first = stage_of serve.size first;
+      first = stage_of serve.size old.session;
       acts = s.0;
       events = s.1.events;
-      last = moment s.1.desktop new;
+      last = moment s.1.desktop new.session;
       lines = lines;
       to = to;
       images = images;
       imaged = imaged;
-      begins = begins;
+      begins = subst (λ (v : SessionView). IsFirst (output_of serve.size) (stage_of serve.size v)) (sym same) begins;
       unpointed = unpointed;
       turns = s.2;
       runs = s.1.runs;
-      shows = s.4 nobody right;
+      shows = s.4 nobody (subst (λ (v : SessionView). IsRightBut nobody (moment_of serve.size v)) (sym same) right);
       tells = s.3;
     }
 
@@ -122,18 +123,18 @@ begun-as serve hub connections side waiting lines none nobody_yet unopened untak
     ∙ (ap (λ (s : Seated (Seat UnixStream)). serving 0 s side waiting) nobody_yet
     ∙ (ap (λ (f : FolderView). serving 0 unconnected f waiting) unopened ∙ ap (λ (l : List PointerLine). begun_of serve l) untaken))
 
-pub turns-ok : {T : Type 0} (r : Result T Fault) (serve : Serve) (lines : List PointerLine) (rate : Option paced.Rate) (turns : Option ℕ) (from to : Serving ℕ UnixStream FolderView)
-    (first old new : SessionView) (report told images imaged : Option (List ℕ)) → old ≡ first
+pub turns-ok : {T : Type 0} {Writer : Type 0} (contents : Writer → Option (List ℕ)) (r : Result T Fault) (serve : Serve) (lines : List PointerLine) (rate : Option paced.Rate) (turns : Option ℕ) (from to : Serving ℕ UnixStream FolderView)
+    (first : SessionView) (old new : RecordedView Writer) (report told images imaged : Option (List ℕ)) → old.session ≡ first
     → Agrees first.desk (empty (record { width = serve.size.width; height = serve.size.height })) → IsRightBut nobody (moment_of serve.size first)
     → IsFirst (output_of serve.size) (stage_of serve.size first) → (is_some serve.pointer ≡ false → lines ≡ [])
     → rate ≡ serve.rate → turns ≡ serve.turns → from ≡ begun_of serve lines
-    → OnOk r (Tells (AreTurns socket_ways folder_files rate turns from to) old new report told images imaged) → OnOk r (ServedTurns serve report told)
-turns-ok (Ok x) serve lines rate turns from to first old new report told images imaged same agrees right begins unpointed same_rate same_turns same_from takes =
-    let at_rate = subst (λ (u : Option paced.Rate). Tells (AreTurns socket_ways folder_files u turns from to) old new report told images imaged) same_rate takes in
-    let so_many = subst (λ (n : Option ℕ). Tells (AreTurns socket_ways folder_files serve.rate n from to) old new report told images imaged) same_turns at_rate in
-    let over = subst (λ (f : Serving ℕ UnixStream FolderView). Tells (AreTurns socket_ways folder_files serve.rate serve.turns f to) old new report told images imaged) same_from so_many in
+    → OnOk r (Tells contents (AreTurns socket_ways folder_files rate turns from to) old new report told images imaged) → OnOk r (ServedTurns serve report told)
+turns-ok {T} {Writer} contents (Ok x) serve lines rate turns from to first old new report told images imaged same agrees right begins unpointed same_rate same_turns same_from takes =
+    let at_rate = subst (λ (u : Option paced.Rate). Tells contents (AreTurns socket_ways folder_files u turns from to) old new report told images imaged) same_rate takes in
+    let so_many = subst (λ (n : Option ℕ). Tells contents (AreTurns socket_ways folder_files serve.rate n from to) old new report told images imaged) same_turns at_rate in
+    let over = subst (λ (f : Serving ℕ UnixStream FolderView). Tells contents (AreTurns socket_ways folder_files serve.rate serve.turns f to) old new report told images imaged) same_from so_many in
     turns-taken serve lines to first old new report told images imaged same agrees right begins unpointed over
-turns-ok (Err e) serve lines rate turns from to first old new report told images imaged same agrees right begins unpointed same_rate same_turns same_from takes = tt
+turns-ok {T} {Writer} contents (Err e) serve lines rate turns from to first old new report told images imaged same agrees right begins unpointed same_rate same_turns same_from takes = tt
 
 -- what fails to be written is a fault of serving
 pub write-fails : {T : Type 0} (r : Result T Fault) (serve : Serve) (report reported : Option (List ℕ)) → IfErr r (λ fault. fault ≡ Write)
@@ -167,57 +168,57 @@ images-fail serve fault report (inr is) = rw is refl
 abbrev pub ViewedAt : {H C S V D : Type 0} → Ways H C → Ways V D → Files S → Option paced.Rate → ℕ → ℕ → ℕ → Stand H C S V D → Stand H C S V D → Stretch
 ViewedAt w v files rate width height n = IsViewedStep w v files rate (time_of (hertz_of rate) n) width height
 
-pub viewed-none : {H C S V D : Type 0} (w : Ways H C) (v : Ways V D) (files : Files S) (rate : Option paced.Rate) (width height : ℕ) (from : Stand H C S V D) (s : SessionView) (report images : Option (List ℕ))
-    → Tells (InTurn (ViewedAt w v files rate width height) 0 from from) s s report report images images
+pub viewed-none : {H C S V D : Type 0} {Writer : Type 0} {contents : Writer → Option (List ℕ)} (w : Ways H C) (v : Ways V D) (files : Files S) (rate : Option paced.Rate) (width height : ℕ) (from : Stand H C S V D) (s : RecordedView Writer) (report images : Option (List ℕ))
+    → Tells contents (InTurn (ViewedAt w v files rate width height) 0 from from) s s report report images images
 viewed-none w v files rate width height from s report images = λ d agrees.
-    ([], went-none s s d refl agrees, InTurn-zero (ViewedAt w v files rate width height) from (moment d s), (Appends-nil report, Appends-nil images))
+    ([], went-none s s d refl agrees, InTurn-zero (ViewedAt w v files rate width height) from (moment d s.session), (Appends-nil report, Appends-nil images))
 
-pub viewed-more : {H C S V D : Type 0} (w : Ways H C) (v : Ways V D) (files : Files S) (rate : Option paced.Rate) (width height across down n time : ℕ) (from between to : Stand H C S V D) (old mid new : SessionView)
+pub viewed-more : {H C S V D : Type 0} {Writer : Type 0} {contents : Writer → Option (List ℕ)} (w : Ways H C) (v : Ways V D) (files : Files S) (rate : Option paced.Rate) (width height across down n time : ℕ) (from between to : Stand H C S V D) (old mid new : RecordedView Writer)
     (x y z i j k : Option (List ℕ)) → time ≡ time_of (hertz_of rate) (n + 1) → across ≡ width → down ≡ height
-    → Tells (InTurn (ViewedAt w v files rate width height) n from between) old mid x y i j → Tells (IsViewedStep w v files rate time across down between to) mid new y z j k
-    → Tells (InTurn (ViewedAt w v files rate width height) (n + 1) from to) old new x z i k
-viewed-more w v files rate width height across down n time from between to old mid new x y z i j k is wide high first next =
-    let at_time : Tells (IsViewedStep w v files rate (time_of (hertz_of rate) (n + 1)) across down between to) mid new y z j k =
-    subst (λ (t : ℕ). Tells (IsViewedStep w v files rate t across down between to) mid new y z j k) is next in
-    let as_wide : Tells (IsViewedStep w v files rate (time_of (hertz_of rate) (n + 1)) width down between to) mid new y z j k =
-    subst (λ (t : ℕ). Tells (IsViewedStep w v files rate (time_of (hertz_of rate) (n + 1)) t down between to) mid new y z j k) wide at_time in
-    let own : Tells (ViewedAt w v files rate width height (n + 1) between to) mid new y z j k =
-    subst (λ (t : ℕ). Tells (IsViewedStep w v files rate (time_of (hertz_of rate) (n + 1)) width t between to) mid new y z j k) high as_wide in
+    → Tells contents (InTurn (ViewedAt w v files rate width height) n from between) old mid x y i j → Tells contents (IsViewedStep w v files rate time across down between to) mid new y z j k
+    → Tells contents (InTurn (ViewedAt w v files rate width height) (n + 1) from to) old new x z i k
+viewed-more {H} {C} {S} {V} {D} {Writer} {contents} w v files rate width height across down n time from between to old mid new x y z i j k is wide high first next =
+    let at_time : Tells contents (IsViewedStep w v files rate (time_of (hertz_of rate) (n + 1)) across down between to) mid new y z j k =
+    subst (λ (t : ℕ). Tells contents (IsViewedStep w v files rate t across down between to) mid new y z j k) is next in
+    let as_wide : Tells contents (IsViewedStep w v files rate (time_of (hertz_of rate) (n + 1)) width down between to) mid new y z j k =
+    subst (λ (t : ℕ). Tells contents (IsViewedStep w v files rate (time_of (hertz_of rate) (n + 1)) t down between to) mid new y z j k) wide at_time in
+    let own : Tells contents (ViewedAt w v files rate width height (n + 1) between to) mid new y z j k =
+    subst (λ (t : ℕ). Tells contents (IsViewedStep w v files rate (time_of (hertz_of rate) (n + 1)) width t between to) mid new y z j k) high as_wide in
     Tells-weaker (Then (InTurn (ViewedAt w v files rate width height) n) (ViewedAt w v files rate width height (n + 1)) from to) (InTurn (ViewedAt w v files rate width height) (n + 1) from to) old new x z i k
     (Tells-both (InTurn (ViewedAt w v files rate width height) n) (ViewedAt w v files rate width height (n + 1)) from between to old mid new x y z i j k first own)
-    (λ d e a es ad ae runs then. InTurn-more (ViewedAt w v files rate width height) n from to (moment d old) a es (moment e new) then)
+    (λ d e a es ad ae runs then. InTurn-more (ViewedAt w v files rate width height) n from to (moment d old.session) a es (moment e new.session) then)
 
-pub viewed-all : {H C S V D : Type 0} (w : Ways H C) (v : Ways V D) (files : Files S) (rate : Option paced.Rate) (turns : Option ℕ) (width height n : ℕ) (from to : Stand H C S V D) (old new : SessionView)
+pub viewed-all : {H C S V D : Type 0} {Writer : Type 0} {contents : Writer → Option (List ℕ)} (w : Ways H C) (v : Ways V D) (files : Files S) (rate : Option paced.Rate) (turns : Option ℕ) (width height n : ℕ) (from to : Stand H C S V D) (old new : RecordedView Writer)
     (x y i j : Option (List ℕ)) → n ≡ count_of turns
-    → Tells (InTurn (ViewedAt w v files rate width height) n from to) old new x y i j → Tells (AreViewedTurns w v files rate turns width height from to) old new x y i j
-viewed-all w v files rate turns width height n from to old new x y i j all tells =
-    subst (λ (count : ℕ). Tells (InTurn (ViewedAt w v files rate width height) count from to) old new x y i j) all tells
+    → Tells contents (InTurn (ViewedAt w v files rate width height) n from to) old new x y i j → Tells contents (AreViewedTurns w v files rate turns width height from to) old new x y i j
+viewed-all {H} {C} {S} {V} {D} {Writer} {contents} w v files rate turns width height n from to old new x y i j all tells =
+    subst (λ (count : ℕ). Tells contents (InTurn (ViewedAt w v files rate width height) count from to) old new x y i j) all tells
 
-viewed-taken : (serve : Serve) (lines : List PointerLine) (to : Stand ℕ UnixStream FolderView ℕ UnixStream) (first old new : SessionView) (report told images imaged : Option (List ℕ)) → old ≡ first
+viewed-taken : {Writer : Type 0} {contents : Writer → Option (List ℕ)} (serve : Serve) (lines : List PointerLine) (to : Stand ℕ UnixStream FolderView ℕ UnixStream) (first : SessionView) (old new : RecordedView Writer) (report told images imaged : Option (List ℕ)) → old.session ≡ first
     → Agrees first.desk (empty (record { width = serve.size.width; height = serve.size.height })) → IsRightBut nobody (moment_of serve.size first)
     → IsFirst (output_of serve.size) (stage_of serve.size first)
     → (is_some serve.pointer ≡ false → lines ≡ [])
-    → Tells (AreViewedTurns socket_ways socket_ways folder_files serve.rate serve.turns serve.size.width serve.size.height (begun_viewed serve lines) to) old new report told images imaged
+    → Tells contents (AreViewedTurns socket_ways socket_ways folder_files serve.rate serve.turns serve.size.width serve.size.height (begun_viewed serve lines) to) old new report told images imaged
     → ServedViewed serve report told
-viewed-taken serve lines to first old new report told images imaged same agrees right begins unpointed takes =
+viewed-taken {Writer} {contents} serve lines to first old new report told images imaged same agrees right begins unpointed takes =
     let P = AreViewedTurns socket_ways socket_ways folder_files serve.rate serve.turns serve.size.width serve.size.height (begun_viewed serve lines) to in
-    let from_first : Tells P first new report told images imaged = subst (λ (v : SessionView). Tells P v new report told images imaged) same takes in
-    let s = served-as P (IsToldOf report told images imaged) first new from_first
-    (empty (record { width = serve.size.width; height = serve.size.height })) agrees in
+    let fresh : Agrees old.session.desk (empty (record { width = serve.size.width; height = serve.size.height })) =
+    subst (λ (v : SessionView). Agrees v.desk (empty (record { width = serve.size.width; height = serve.size.height }))) (sym same) agrees in
+    let s = served-as P (IsToldOf report told images imaged) old new takes (empty (record { width = serve.size.width; height = serve.size.height })) fresh in
     record {
-      first = stage_of serve.size first;
+      first = stage_of serve.size old.session;
       acts = s.0;
       events = s.1.events;
-      last = moment s.1.desktop new;
+      last = moment s.1.desktop new.session;
       lines = lines;
       to = to;
       images = images;
       imaged = imaged;
-      begins = begins;
+      begins = subst (λ (v : SessionView). IsFirst (output_of serve.size) (stage_of serve.size v)) (sym same) begins;
       unpointed = unpointed;
       turns = s.2;
       runs = s.1.runs;
-      shows = s.4 nobody right;
+      shows = s.4 nobody (subst (λ (v : SessionView). IsRightBut nobody (moment_of serve.size v)) (sym same) right);
       tells = s.3;
     }
 
@@ -236,17 +237,17 @@ pub unviewed : {T : Type 0} (r : Result T Fault) (serve : Serve) (report told : 
 unviewed (Ok x) serve report told none holds = subst (λ (b : Bool). ServedAs b serve report told) (sym none) holds
 unviewed (Err e) serve report told none holds = tt
 
-pub viewed-ok : {T : Type 0} (r : Result T Fault) (serve : Serve) (lines : List PointerLine) (rate : Option paced.Rate) (turns : Option ℕ) (width height : ℕ) (from to : Stand ℕ UnixStream FolderView ℕ UnixStream)
-    (first old new : SessionView) (report told images imaged : Option (List ℕ)) → is_some serve.viewer ≡ true → old ≡ first
+pub viewed-ok : {T : Type 0} {Writer : Type 0} (contents : Writer → Option (List ℕ)) (r : Result T Fault) (serve : Serve) (lines : List PointerLine) (rate : Option paced.Rate) (turns : Option ℕ) (width height : ℕ) (from to : Stand ℕ UnixStream FolderView ℕ UnixStream)
+    (first : SessionView) (old new : RecordedView Writer) (report told images imaged : Option (List ℕ)) → is_some serve.viewer ≡ true → old.session ≡ first
     → Agrees first.desk (empty (record { width = serve.size.width; height = serve.size.height })) → IsRightBut nobody (moment_of serve.size first)
     → IsFirst (output_of serve.size) (stage_of serve.size first) → (is_some serve.pointer ≡ false → lines ≡ [])
     → rate ≡ serve.rate → turns ≡ serve.turns → width ≡ serve.size.width → height ≡ serve.size.height → from ≡ begun_viewed serve lines
-    → OnOk r (Tells (AreViewedTurns socket_ways socket_ways folder_files rate turns width height from to) old new report told images imaged) → OnOk r (IsServedSo serve report told)
-viewed-ok (Ok x) serve lines rate turns width height from to first old new report told images imaged some same agrees right begins unpointed same_rate same_turns wide high same_from takes =
-    let at_rate = subst (λ (u : Option paced.Rate). Tells (AreViewedTurns socket_ways socket_ways folder_files u turns width height from to) old new report told images imaged) same_rate takes in
-    let so_many = subst (λ (n : Option ℕ). Tells (AreViewedTurns socket_ways socket_ways folder_files serve.rate n width height from to) old new report told images imaged) same_turns at_rate in
-    let as_wide = subst (λ (n : ℕ). Tells (AreViewedTurns socket_ways socket_ways folder_files serve.rate serve.turns n height from to) old new report told images imaged) wide so_many in
-    let as_high = subst (λ (n : ℕ). Tells (AreViewedTurns socket_ways socket_ways folder_files serve.rate serve.turns serve.size.width n from to) old new report told images imaged) high as_wide in
-    let over = subst (λ (f : Stand ℕ UnixStream FolderView ℕ UnixStream). Tells (AreViewedTurns socket_ways socket_ways folder_files serve.rate serve.turns serve.size.width serve.size.height f to) old new report told images imaged) same_from as_high in
+    → OnOk r (Tells contents (AreViewedTurns socket_ways socket_ways folder_files rate turns width height from to) old new report told images imaged) → OnOk r (IsServedSo serve report told)
+viewed-ok {T} {Writer} contents (Ok x) serve lines rate turns width height from to first old new report told images imaged some same agrees right begins unpointed same_rate same_turns wide high same_from takes =
+    let at_rate = subst (λ (u : Option paced.Rate). Tells contents (AreViewedTurns socket_ways socket_ways folder_files u turns width height from to) old new report told images imaged) same_rate takes in
+    let so_many = subst (λ (n : Option ℕ). Tells contents (AreViewedTurns socket_ways socket_ways folder_files serve.rate n width height from to) old new report told images imaged) same_turns at_rate in
+    let as_wide = subst (λ (n : ℕ). Tells contents (AreViewedTurns socket_ways socket_ways folder_files serve.rate serve.turns n height from to) old new report told images imaged) wide so_many in
+    let as_high = subst (λ (n : ℕ). Tells contents (AreViewedTurns socket_ways socket_ways folder_files serve.rate serve.turns serve.size.width n from to) old new report told images imaged) high as_wide in
+    let over = subst (λ (f : Stand ℕ UnixStream FolderView ℕ UnixStream). Tells contents (AreViewedTurns socket_ways socket_ways folder_files serve.rate serve.turns serve.size.width serve.size.height f to) old new report told images imaged) same_from as_high in
     subst (λ (b : Bool). ServedAs b serve report told) (sym some) (viewed-taken serve lines to first old new report told images imaged same agrees right begins unpointed over)
-viewed-ok (Err e) serve lines rate turns width height from to first old new report told images imaged some same agrees right begins unpointed same_rate same_turns wide high same_from takes = tt
+viewed-ok {T} {Writer} contents (Err e) serve lines rate turns width height from to first old new report told images imaged some same agrees right begins unpointed same_rate same_turns wide high same_from takes = tt

@@ -1,6 +1,7 @@
 //! Serving clients.
 
 ghost use Rattle.std.specs.Prelude.{◌≡◌, ◌⊎◌, ℕ, IfErr, IfOk, IfSome, OnErr, OnOk, is_some};
+ghost use Rattle.std.specs.Option.{option_map};
 ghost use Rattle.spec_desktop.specs.Desktop.{empty};
 ghost use Rattle.wl_replay.specs.Told.{IsFirst};
 ghost use Rattle.wl_server.specs.Agreeing.{Agrees};
@@ -80,7 +81,8 @@ fn recorded<A: Allocator + Copy, R: Write>(
     writer: Option<R>,
 ) -> Recorded<A, R>
     requires { (width : ℕ) × (height : ℕ) × Agrees session.desk (empty (record { width = width; height = height })) }
-    ensures { result.session ≡ session }
+    ensures session { result.session ≡ session }
+    ensures recording { option_map (λ r. r.written.writer) result.recording ≡ writer }
 {
     match writer {
         Some(writer) => Recorded::new(alloc, session, writer),
@@ -159,13 +161,13 @@ pub fn serve_on<C: Clock, A: Allocator + Copy, R: Write, H: Hub, S: SideFiles, W
     report: &mut W,
     ppm: &mut Option<P>,
 ) -> Result<(), Fault>
-    ensures taken { OnOk result (Tells (AreTurns (ways H.accepts H.reads H.writes H.closes H.fault_count) (files_of S.opens S.gives S.fault_count) schedule.entry.pace.rate schedule.entry.pace.turns
+    ensures taken { OnOk result (Tells R.contents (AreTurns (ways H.accepts H.reads H.writes H.closes H.fault_count) (files_of S.opens S.gives S.fault_count) schedule.entry.pace.rate schedule.entry.pace.turns
         (serving service.old.hub connections.old service.old.side service.old.waiting) (serving service.new.hub connections.new service.new.side service.new.waiting))
-        service.old.recorded.session service.new.recorded.session (W.contents report.old) (W.contents report.new)
+        service.old.recorded service.new.recorded (W.contents report.old) (W.contents report.new)
         (images_in P.contents ppm.old) (images_in P.contents ppm.new)) }
-    ensures begun { OnErr result (Takes (BeginsTurns (ways H.accepts H.reads H.writes H.closes H.fault_count) (files_of S.opens S.gives S.fault_count) schedule.entry.pace.rate schedule.entry.pace.turns
+    ensures begun { OnErr result (Takes R.contents (BeginsTurns (ways H.accepts H.reads H.writes H.closes H.fault_count) (files_of S.opens S.gives S.fault_count) schedule.entry.pace.rate schedule.entry.pace.turns
         (serving service.old.hub connections.old service.old.side service.old.waiting) (serving service.new.hub connections.new service.new.side service.new.waiting))
-        service.old.recorded.session service.new.recorded.session) }
+        service.old.recorded service.new.recorded) }
     ensures failed { IfErr result (λ fault. fault ≡ Fault.Write) }
 {
     let mut timer = Timer::new(schedule.pace.rate);
@@ -206,10 +208,10 @@ pub fn serve_viewed<
     report: &mut W,
     ppm: &mut Option<P>,
 ) -> Result<(), Fault>
-    ensures taken { OnOk result (Tells (AreViewedTurns (ways H.accepts H.reads H.writes H.closes H.fault_count) (ways V.accepts V.reads V.writes V.closes V.fault_count) (files_of S.opens S.gives S.fault_count) schedule.entry.pace.rate schedule.entry.pace.turns viewing.old.width viewing.old.height
+    ensures taken { OnOk result (Tells R.contents (AreViewedTurns (ways H.accepts H.reads H.writes H.closes H.fault_count) (ways V.accepts V.reads V.writes V.closes V.fault_count) (files_of S.opens S.gives S.fault_count) schedule.entry.pace.rate schedule.entry.pace.turns viewing.old.width viewing.old.height
         (serving service.old.hub connections.old service.old.side service.old.waiting, (viewing.old.hub, viewing.old.watcher))
         (serving service.new.hub connections.new service.new.side service.new.waiting, (viewing.new.hub, viewing.new.watcher)))
-        service.old.recorded.session service.new.recorded.session (W.contents report.old) (W.contents report.new)
+        service.old.recorded service.new.recorded (W.contents report.old) (W.contents report.new)
         (images_in P.contents ppm.old) (images_in P.contents ppm.new)) }
     ensures failed { IfErr result (λ fault. fault ≡ Fault.Write) }
 {

@@ -46,13 +46,13 @@ pub(crate) fn take_step<
     report: &mut W,
     ppm: &mut Option<P>,
 ) -> Result<(), Fault>
-    ensures taken { OnOk result (Tells (IsStep (ways H.accepts H.reads H.writes H.closes H.fault_count) (files_of S.opens S.gives S.fault_count) schedule.entry.pace.rate time
+    ensures taken { OnOk result (Tells R.contents (IsStep (ways H.accepts H.reads H.writes H.closes H.fault_count) (files_of S.opens S.gives S.fault_count) schedule.entry.pace.rate time
         (serving service.old.hub connections.old service.old.side service.old.waiting) (serving service.new.hub connections.new service.new.side service.new.waiting))
-        service.old.recorded.session service.new.recorded.session (W.contents report.old) (W.contents report.new)
+        service.old.recorded service.new.recorded (W.contents report.old) (W.contents report.new)
         (images_in P.contents ppm.old) (images_in P.contents ppm.new)) }
-    ensures begun { OnErr result (Takes (StartsStep (ways H.accepts H.reads H.writes H.closes H.fault_count) (files_of S.opens S.gives S.fault_count) schedule.entry.pace.rate time
+    ensures begun { OnErr result (Takes R.contents (StartsStep (ways H.accepts H.reads H.writes H.closes H.fault_count) (files_of S.opens S.gives S.fault_count) schedule.entry.pace.rate time
         (serving service.old.hub connections.old service.old.side service.old.waiting) (serving service.new.hub connections.new service.new.side service.new.waiting))
-        service.old.recorded.session service.new.recorded.session) }
+        service.old.recorded service.new.recorded) }
     ensures failed { IfErr result (λ fault. fault ≡ Fault.Write) }
 {
     match schedule.pace.rate {
@@ -90,13 +90,13 @@ fn take_short_turns<
     report: &mut W,
     ppm: &mut Option<P>,
 ) -> Result<(), Fault>
-    ensures taken { OnOk result (Tells (AreShortTurns (ways H.accepts H.reads H.writes H.closes H.fault_count) (files_of S.opens S.gives S.fault_count)
+    ensures taken { OnOk result (Tells R.contents (AreShortTurns (ways H.accepts H.reads H.writes H.closes H.fault_count) (files_of S.opens S.gives S.fault_count)
         (serving service.old.hub connections.old service.old.side service.old.waiting) (serving service.new.hub connections.new service.new.side service.new.waiting))
-        service.old.recorded.session service.new.recorded.session (W.contents report.old) (W.contents report.new)
+        service.old.recorded service.new.recorded (W.contents report.old) (W.contents report.new)
         (images_in P.contents ppm.old) (images_in P.contents ppm.new)) }
-    ensures begun { OnErr result (Takes (BeginsShortTurns (ways H.accepts H.reads H.writes H.closes H.fault_count) (files_of S.opens S.gives S.fault_count)
+    ensures begun { OnErr result (Takes R.contents (BeginsShortTurns (ways H.accepts H.reads H.writes H.closes H.fault_count) (files_of S.opens S.gives S.fault_count)
         (serving service.old.hub connections.old service.old.side service.old.waiting) (serving service.new.hub connections.new service.new.side service.new.waiting))
-        service.old.recorded.session service.new.recorded.session) }
+        service.old.recorded service.new.recorded) }
     ensures failed { IfErr result (λ fault. fault ≡ Fault.Write) }
 {
     let mut is_busy = connections.have_sent();
@@ -125,13 +125,13 @@ fn take_short_turn<
     report: &mut W,
     ppm: &mut Option<P>,
 ) -> Result<bool, Fault>
-    ensures taken { OnOk result (Tells (IsShortTurn (ways H.accepts H.reads H.writes H.closes H.fault_count) (files_of S.opens S.gives S.fault_count)
+    ensures taken { OnOk result (Tells R.contents (IsShortTurn (ways H.accepts H.reads H.writes H.closes H.fault_count) (files_of S.opens S.gives S.fault_count)
         (serving service.old.hub connections.old service.old.side service.old.waiting) (serving service.new.hub connections.new service.new.side service.new.waiting))
-        service.old.recorded.session service.new.recorded.session (W.contents report.old) (W.contents report.new)
+        service.old.recorded service.new.recorded (W.contents report.old) (W.contents report.new)
         (images_in P.contents ppm.old) (images_in P.contents ppm.new)) }
-    ensures begun { Takes (StartsShortTurn (ways H.accepts H.reads H.writes H.closes H.fault_count) (files_of S.opens S.gives S.fault_count)
+    ensures begun { Takes R.contents (StartsShortTurn (ways H.accepts H.reads H.writes H.closes H.fault_count) (files_of S.opens S.gives S.fault_count)
         (serving service.old.hub connections.old service.old.side service.old.waiting) (serving service.new.hub connections.new service.new.side service.new.waiting))
-        service.old.recorded.session service.new.recorded.session }
+        service.old.recorded service.new.recorded }
     ensures failed { IfErr result (λ fault. fault ≡ Fault.Write) }
 {
     let taken = short_turn(shares, service, connections, report);
@@ -151,13 +151,13 @@ fn take_turn<A: Allocator + Copy, R: Write, H: Hub, S: SideFiles, W: Write, P: W
     report: &mut W,
     ppm: &mut Option<P>,
 ) -> Result<(), Fault>
-    ensures taken { OnOk result (Tells (IsTurn (ways H.accepts H.reads H.writes H.closes H.fault_count) (files_of S.opens S.gives S.fault_count) time
+    ensures taken { OnOk result (Tells R.contents (IsTurn (ways H.accepts H.reads H.writes H.closes H.fault_count) (files_of S.opens S.gives S.fault_count) time
         (serving service.old.hub connections.old service.old.side service.old.waiting) (serving service.new.hub connections.new service.new.side service.new.waiting))
-        service.old.recorded.session service.new.recorded.session (W.contents report.old) (W.contents report.new)
+        service.old.recorded service.new.recorded (W.contents report.old) (W.contents report.new)
         (images_in P.contents ppm.old) (images_in P.contents ppm.new)) }
-    ensures begun { Takes (StartsTurn (ways H.accepts H.reads H.writes H.closes H.fault_count) (files_of S.opens S.gives S.fault_count) time
+    ensures begun { Takes R.contents (StartsTurn (ways H.accepts H.reads H.writes H.closes H.fault_count) (files_of S.opens S.gives S.fault_count) time
         (serving service.old.hub connections.old service.old.side service.old.waiting) (serving service.new.hub connections.new service.new.side service.new.waiting))
-        service.old.recorded.session service.new.recorded.session }
+        service.old.recorded service.new.recorded }
     ensures failed { IfErr result (λ fault. fault ≡ Fault.Write) }
 {
     let taken = turn(service, connections, time, report, ppm);
@@ -186,13 +186,13 @@ fn take_shared_turn<
     report: &mut W,
     ppm: &mut Option<P>,
 ) -> Result<(), Fault>
-    ensures taken { OnOk result (Tells (IsSharedTurn (ways H.accepts H.reads H.writes H.closes H.fault_count) (files_of S.opens S.gives S.fault_count) time
+    ensures taken { OnOk result (Tells R.contents (IsSharedTurn (ways H.accepts H.reads H.writes H.closes H.fault_count) (files_of S.opens S.gives S.fault_count) time
         (serving service.old.hub connections.old service.old.side service.old.waiting) (serving service.new.hub connections.new service.new.side service.new.waiting))
-        service.old.recorded.session service.new.recorded.session (W.contents report.old) (W.contents report.new)
+        service.old.recorded service.new.recorded (W.contents report.old) (W.contents report.new)
         (images_in P.contents ppm.old) (images_in P.contents ppm.new)) }
-    ensures begun { Takes (StartsSharedTurn (ways H.accepts H.reads H.writes H.closes H.fault_count) (files_of S.opens S.gives S.fault_count) time
+    ensures begun { Takes R.contents (StartsSharedTurn (ways H.accepts H.reads H.writes H.closes H.fault_count) (files_of S.opens S.gives S.fault_count) time
         (serving service.old.hub connections.old service.old.side service.old.waiting) (serving service.new.hub connections.new service.new.side service.new.waiting))
-        service.old.recorded.session service.new.recorded.session }
+        service.old.recorded service.new.recorded }
     ensures failed { IfErr result (λ fault. fault ≡ Fault.Write) }
 {
     let taken = shared_turn(shares, service, connections, time, report, ppm);
@@ -224,10 +224,10 @@ pub(crate) fn take_viewed_step<
     report: &mut W,
     ppm: &mut Option<P>,
 ) -> Result<(), Fault>
-    ensures taken { OnOk result (Tells (IsViewedStep (ways H.accepts H.reads H.writes H.closes H.fault_count) (ways V.accepts V.reads V.writes V.closes V.fault_count) (files_of S.opens S.gives S.fault_count) schedule.entry.pace.rate time viewing.old.width viewing.old.height
+    ensures taken { OnOk result (Tells R.contents (IsViewedStep (ways H.accepts H.reads H.writes H.closes H.fault_count) (ways V.accepts V.reads V.writes V.closes V.fault_count) (files_of S.opens S.gives S.fault_count) schedule.entry.pace.rate time viewing.old.width viewing.old.height
         (serving service.old.hub connections.old service.old.side service.old.waiting, (viewing.old.hub, viewing.old.watcher))
         (serving service.new.hub connections.new service.new.side service.new.waiting, (viewing.new.hub, viewing.new.watcher)))
-        service.old.recorded.session service.new.recorded.session (W.contents report.old) (W.contents report.new)
+        service.old.recorded service.new.recorded (W.contents report.old) (W.contents report.new)
         (images_in P.contents ppm.old) (images_in P.contents ppm.new)) }
     ensures width { viewing.new.width ≡ viewing.old.width }
     ensures height { viewing.new.height ≡ viewing.old.height }
@@ -273,10 +273,10 @@ fn take_short_viewed_turns<
     report: &mut W,
     ppm: &mut Option<P>,
 ) -> Result<(), Fault>
-    ensures taken { OnOk result (Tells (AreShortViewedTurns (ways H.accepts H.reads H.writes H.closes H.fault_count) (ways V.accepts V.reads V.writes V.closes V.fault_count) (files_of S.opens S.gives S.fault_count) time viewing.old.width viewing.old.height
+    ensures taken { OnOk result (Tells R.contents (AreShortViewedTurns (ways H.accepts H.reads H.writes H.closes H.fault_count) (ways V.accepts V.reads V.writes V.closes V.fault_count) (files_of S.opens S.gives S.fault_count) time viewing.old.width viewing.old.height
         (serving service.old.hub connections.old service.old.side service.old.waiting, (viewing.old.hub, viewing.old.watcher))
         (serving service.new.hub connections.new service.new.side service.new.waiting, (viewing.new.hub, viewing.new.watcher)))
-        service.old.recorded.session service.new.recorded.session (W.contents report.old) (W.contents report.new)
+        service.old.recorded service.new.recorded (W.contents report.old) (W.contents report.new)
         (images_in P.contents ppm.old) (images_in P.contents ppm.new)) }
     ensures width { viewing.new.width ≡ viewing.old.width }
     ensures height { viewing.new.height ≡ viewing.old.height }
@@ -312,10 +312,10 @@ fn take_short_viewed_turn<
     report: &mut W,
     ppm: &mut Option<P>,
 ) -> Result<bool, Fault>
-    ensures taken { OnOk result (Tells (IsShortViewedTurn (ways H.accepts H.reads H.writes H.closes H.fault_count) (ways V.accepts V.reads V.writes V.closes V.fault_count) (files_of S.opens S.gives S.fault_count) time viewing.old.width viewing.old.height
+    ensures taken { OnOk result (Tells R.contents (IsShortViewedTurn (ways H.accepts H.reads H.writes H.closes H.fault_count) (ways V.accepts V.reads V.writes V.closes V.fault_count) (files_of S.opens S.gives S.fault_count) time viewing.old.width viewing.old.height
         (serving service.old.hub connections.old service.old.side service.old.waiting, (viewing.old.hub, viewing.old.watcher))
         (serving service.new.hub connections.new service.new.side service.new.waiting, (viewing.new.hub, viewing.new.watcher)))
-        service.old.recorded.session service.new.recorded.session (W.contents report.old) (W.contents report.new)
+        service.old.recorded service.new.recorded (W.contents report.old) (W.contents report.new)
         (images_in P.contents ppm.old) (images_in P.contents ppm.new)) }
     ensures width { viewing.new.width ≡ viewing.old.width }
     ensures height { viewing.new.height ≡ viewing.old.height }
@@ -346,10 +346,10 @@ fn take_viewed_turn<
     report: &mut W,
     ppm: &mut Option<P>,
 ) -> Result<(), Fault>
-    ensures taken { OnOk result (Tells (IsViewedTurn (ways H.accepts H.reads H.writes H.closes H.fault_count) (ways V.accepts V.reads V.writes V.closes V.fault_count) (files_of S.opens S.gives S.fault_count) time viewing.old.width viewing.old.height
+    ensures taken { OnOk result (Tells R.contents (IsViewedTurn (ways H.accepts H.reads H.writes H.closes H.fault_count) (ways V.accepts V.reads V.writes V.closes V.fault_count) (files_of S.opens S.gives S.fault_count) time viewing.old.width viewing.old.height
         (serving service.old.hub connections.old service.old.side service.old.waiting, (viewing.old.hub, viewing.old.watcher))
         (serving service.new.hub connections.new service.new.side service.new.waiting, (viewing.new.hub, viewing.new.watcher)))
-        service.old.recorded.session service.new.recorded.session (W.contents report.old) (W.contents report.new)
+        service.old.recorded service.new.recorded (W.contents report.old) (W.contents report.new)
         (images_in P.contents ppm.old) (images_in P.contents ppm.new)) }
     ensures width { viewing.new.width ≡ viewing.old.width }
     ensures height { viewing.new.height ≡ viewing.old.height }
@@ -383,10 +383,10 @@ fn take_shared_viewed_turn<
     report: &mut W,
     ppm: &mut Option<P>,
 ) -> Result<(), Fault>
-    ensures taken { OnOk result (Tells (IsSharedViewedTurn (ways H.accepts H.reads H.writes H.closes H.fault_count) (ways V.accepts V.reads V.writes V.closes V.fault_count) (files_of S.opens S.gives S.fault_count) time viewing.old.width viewing.old.height
+    ensures taken { OnOk result (Tells R.contents (IsSharedViewedTurn (ways H.accepts H.reads H.writes H.closes H.fault_count) (ways V.accepts V.reads V.writes V.closes V.fault_count) (files_of S.opens S.gives S.fault_count) time viewing.old.width viewing.old.height
         (serving service.old.hub connections.old service.old.side service.old.waiting, (viewing.old.hub, viewing.old.watcher))
         (serving service.new.hub connections.new service.new.side service.new.waiting, (viewing.new.hub, viewing.new.watcher)))
-        service.old.recorded.session service.new.recorded.session (W.contents report.old) (W.contents report.new)
+        service.old.recorded service.new.recorded (W.contents report.old) (W.contents report.new)
         (images_in P.contents ppm.old) (images_in P.contents ppm.new)) }
     ensures width { viewing.new.width ≡ viewing.old.width }
     ensures height { viewing.new.height ≡ viewing.old.height }

@@ -8,11 +8,11 @@ use Rattle.wl_session.specs.Agreeing.{Agrees}
 use Rattle.wl_session.specs.Course.{moment}
 use Rattle.wl_session.specs.Events.{AreApart, AreEvents, Event, Moment}
 use Rattle.wl_session.specs.Liars.{IsRightBut}
-use Rattle.wl_session.specs.View.{SessionView}
 use Rattle.wl_session.proofs.Runs.{runs-events}
 use Rattle.wl_session.proofs.Seen.{frame-scratch}
 use Rattle.wl_session.proofs.Stays.{stays_right}
 use Rattle.wl_server.specs.Acting.{IsServed, ShowsScratch, Stretch, Takes, Went}
+use Rattle.wl_server.specs.Recorded.{RecordedView}
 use Rattle.wl_server.specs.Telling.{IsToldOf, Tells}
 
 -- up to a frame, and with it
@@ -34,25 +34,25 @@ shows-scratch from to events liars apart leads right before frame later broke x 
 
 -- ---- what is served
 
-pub served-as : (P : Stretch) (Q : List Event → Type 0) (old new : SessionView)
-    → ((d : Desktop) → Agrees old.desk d → (acts : List Act) × (went : Went acts old new d) × P (moment d old) acts went.events (moment went.desktop new) × Q went.events)
-    → IsServed P Q old new
+pub served-as : {Writer : Type 0} {contents : Writer → Option (List ℕ)} (P : Stretch) (Q : List Event → Type 0) (old new : RecordedView Writer)
+    → ((d : Desktop) → Agrees old.session.desk d → (acts : List Act) × (went : Went contents acts old new d) × P (moment d old.session) acts went.events (moment went.desktop new.session) × Q went.events)
+    → IsServed contents P Q old new
 served-as P Q old new takes = λ d agrees.
     let t = takes d agrees in
     let went = t.1 in
-    let leads = runs-events t.0 (moment d old) (moment went.desktop new) went.events went.runs in (
+    let leads = runs-events t.0 (moment d old.session) (moment went.desktop new.session) went.events went.runs in (
       t.0,
       went,
       t.2,
       t.3,
-      (λ liars right. shows-scratch (moment d old) (moment went.desktop new) went.events liars went.apart leads right),
-      (λ liars last broke right. stays_right (moment d old) (moment went.desktop new) went.events liars last went.apart leads broke right),
+      (λ liars right. shows-scratch (moment d old.session) (moment went.desktop new.session) went.events liars went.apart leads right),
+      (λ liars last broke right. stays_right (moment d old.session) (moment went.desktop new.session) went.events liars last went.apart leads broke right),
     )
 
-pub served-of : (P : Stretch) (old new : SessionView) → Takes P old new → IsServed P (λ events. ⊤) old new
+pub served-of : {Writer : Type 0} {contents : Writer → Option (List ℕ)} (P : Stretch) (old new : RecordedView Writer) → Takes contents P old new → IsServed contents P (λ events. ⊤) old new
 served-of P old new takes = served-as P (λ events. ⊤) old new (λ d agrees. let t = takes d agrees in (t.0, t.1, t.2, tt))
 
-pub served-told : {T E : Type 0} (P : Stretch) (old new : SessionView) (report told images imaged : Option (List ℕ)) (r : Result T E)
-    → OnOk r (Tells P old new report told images imaged) → OnOk r (IsServed P (IsToldOf report told images imaged) old new)
-served-told P old new report told images imaged (Ok x) tells = served-as P (IsToldOf report told images imaged) old new tells
-served-told P old new report told images imaged (Err e) tells = tt
+pub served-told : {T E : Type 0} {Writer : Type 0} (contents : Writer → Option (List ℕ)) (P : Stretch) (old new : RecordedView Writer) (report told images imaged : Option (List ℕ)) (r : Result T E)
+    → OnOk r (Tells contents P old new report told images imaged) → OnOk r (IsServed contents P (IsToldOf report told images imaged) old new)
+served-told contents P old new report told images imaged (Ok x) tells = served-as P (IsToldOf report told images imaged) old new tells
+served-told contents P old new report told images imaged (Err e) tells = tt

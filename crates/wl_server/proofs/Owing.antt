@@ -3,9 +3,9 @@ use Rattle.std.proofs.Common.{◌≡◌, ◌<◌, ◌≤◌, ◌+◌, ◌*◌, �
 use Rattle.wl_recording.specs.Side.{Files}
 use Rattle.wl_recording.specs.declared.pointer.PointerLine.{PointerLine}
 use Rattle.wl_session.specs.Course.{moment}
-use Rattle.wl_session.specs.View.{SessionView}
 use Rattle.wl_server.specs.declared.seat.Seat.{Seat}
 use Rattle.wl_server.specs.Acting.{InTurn, Takes, Then}
+use Rattle.wl_server.specs.Recorded.{RecordedView}
 use Rattle.wl_server.specs.Phases.{Accepting, AcceptsAll, AtSeat, FillsSeat, Link, Place, ReadsUntil}
 use Rattle.wl_server.specs.Seats.{Seated}
 use Rattle.wl_server.specs.Sharing.{AreCharged, Both, FillsShared, IsShareOver, NobodyIsPassedOver, OnHub, OnSide, PassedOver, ReadsShare, ReadsShared, ReadsUnless, SharesIn, SharesSeat, Sharing, owes, passed_over}
@@ -19,25 +19,25 @@ use Rattle.wl_server.proofs.Turning.{Reports-both, Reports-quiet}
 -- ---- a client is read
 
 -- who owes more than it is paid isn't
-pub passes : {H C : Type 0} (w : Ways H C) (paid client debt : ℕ) (hub : H) (seat : Seat C) (v : SessionView) → owes paid seat ≡ true → debt ≡ seat.debt - paid
-    → Takes (ReadsShare w paid client (hub, seat) (hub, record seat { has_sent = false; debt = debt })) v v
+pub passes : {H C : Type 0} {Writer : Type 0} {contents : Writer → Option (List ℕ)} (w : Ways H C) (paid client debt : ℕ) (hub : H) (seat : Seat C) (v : RecordedView Writer) → owes paid seat ≡ true → debt ≡ seat.debt - paid
+    → Takes contents (ReadsShare w paid client (hub, seat) (hub, record seat { has_sent = false; debt = debt })) v v
 passes {H} {C} w paid client debt hub seat v more is =
     let to : Link H C = (hub, record seat { has_sent = false; debt = debt }) in
     Takes-none (ReadsShare w paid client (hub, seat) to) v v refl
-    (λ d agrees. subst (λ (b : Bool). ReadsUnless b w paid client (hub, seat) to (moment d v) [] [] (moment d v)) (sym more)
+    (λ d agrees. subst (λ (b : Bool). ReadsUnless b w paid client (hub, seat) to (moment d v.session) [] [] (moment d v.session)) (sym more)
     ((refl, refl, refl), ap (λ (n : ℕ). (hub, record seat { has_sent = false; debt = n })) is))
 
-pub reads-on : {H C : Type 0} (w : Ways H C) (paid client : ℕ) (hub : H) (seat : Seat C) (to : Link H C) (old new : SessionView) → owes paid seat ≡ false
-    → Takes (ReadsUntil IsShareOver w client (hub, record seat { debt = 0 }) to) old new → Takes (ReadsShare w paid client (hub, seat) to) old new
+pub reads-on : {H C : Type 0} {Writer : Type 0} {contents : Writer → Option (List ℕ)} (w : Ways H C) (paid client : ℕ) (hub : H) (seat : Seat C) (to : Link H C) (old new : RecordedView Writer) → owes paid seat ≡ false
+    → Takes contents (ReadsUntil IsShareOver w client (hub, record seat { debt = 0 }) to) old new → Takes contents (ReadsShare w paid client (hub, seat) to) old new
 reads-on w paid client hub seat to old new enough takes =
     Takes-weaker (ReadsUntil IsShareOver w client (hub, record seat { debt = 0 }) to) (ReadsShare w paid client (hub, seat) to) old new takes
-    (λ d e a es ad ae runs p. subst (λ (b : Bool). ReadsUnless b w paid client (hub, seat) to (moment d old) a es (moment e new)) (sym enough) p)
+    (λ d e a es ad ae runs p. subst (λ (b : Bool). ReadsUnless b w paid client (hub, seat) to (moment d old.session) a es (moment e new.session)) (sym enough) p)
 
 -- ---- it is read, and its stores get their side files
 
-pub shares-seat : {H C S : Type 0} (w : Ways H C) (files : Files S) (paid client : ℕ) (h0 h1 : H) (f0 f1 : S) (s0 s1 s2 : Option (Seat C)) (v0 v1 v2 : SessionView)
-    → Takes (ReadsShared w paid client (h0, s0) (h1, s1)) v0 v1 → Takes (FillsSeat files client s1 f0 f1) v1 v2 → AreCharged s1 s2
-    → Takes (SharesSeat w files paid client ((h0, f0), s0) ((h1, f1), s2)) v0 v2
+pub shares-seat : {H C S : Type 0} {Writer : Type 0} {contents : Writer → Option (List ℕ)} (w : Ways H C) (files : Files S) (paid client : ℕ) (h0 h1 : H) (f0 f1 : S) (s0 s1 s2 : Option (Seat C)) (v0 v1 v2 : RecordedView Writer)
+    → Takes contents (ReadsShared w paid client (h0, s0) (h1, s1)) v0 v1 → Takes contents (FillsSeat files client s1 f0 f1) v1 v2 → AreCharged s1 s2
+    → Takes contents (SharesSeat w files paid client ((h0, f0), s0) ((h1, f1), s2)) v0 v2
 shares-seat {H} {C} {S} w files paid client h0 h1 f0 f1 s0 s1 s2 v0 v1 v2 reads fills charged =
     let from : Both H C S = ((h0, f0), s0) in
     let mid : Both H C S = ((h1, f0), s1) in
@@ -79,11 +79,11 @@ shares-in-pass w files from to start end acts events p =
 at : {H C S : Type 0} → H → ℕ → List (Option (Seat C)) → S → List PointerLine → Serving H C S
 at hub accepted seats side lines = serving hub (record { accepted = accepted; seats = seats }) side lines
 
-pub shared-in : {H C S : Type 0} (w : Ways H C) (files : Files S) (paid : ℕ) (h0 h1 h2 : H) (a0 a1 : ℕ) (s0 s1 s2 : List (Option (Seat C))) (f0 f1 : S) (lines : List PointerLine)
-    (v0 v1 v2 : SessionView) (x y : Option (List ℕ)) → 50000 ≤ paid
-    → Reports (AcceptsAll w (h0, record { accepted = a0; seats = s0 }) (h1, record { accepted = a1; seats = s1 })) v0 v1 x y
-    → Takes (InTurn (AtSeat (SharesSeat w files paid)) 32 ((h1, f0), s1) ((h2, f1), s2)) v1 v2
-    → Reports (SharesIn w files (serving h0 (record { accepted = a0; seats = s0 }) f0 lines) (serving h2 (record { accepted = a1; seats = s2 }) f1 lines)) v0 v2 x y
+pub shared-in : {H C S : Type 0} {Writer : Type 0} {contents : Writer → Option (List ℕ)} (w : Ways H C) (files : Files S) (paid : ℕ) (h0 h1 h2 : H) (a0 a1 : ℕ) (s0 s1 s2 : List (Option (Seat C))) (f0 f1 : S) (lines : List PointerLine)
+    (v0 v1 v2 : RecordedView Writer) (x y : Option (List ℕ)) → 50000 ≤ paid
+    → Reports contents (AcceptsAll w (h0, record { accepted = a0; seats = s0 }) (h1, record { accepted = a1; seats = s1 })) v0 v1 x y
+    → Takes contents (InTurn (AtSeat (SharesSeat w files paid)) 32 ((h1, f0), s1) ((h2, f1), s2)) v1 v2
+    → Reports contents (SharesIn w files (serving h0 (record { accepted = a0; seats = s0 }) f0 lines) (serving h2 (record { accepted = a1; seats = s2 }) f1 lines)) v0 v2 x y
 unfolding at
 shared-in w files paid h0 h1 h2 a0 a1 s0 s1 s2 f0 f1 lines v0 v1 v2 x y least accepts shares =
     let m0 = at h0 a0 s0 f0 lines in

@@ -1,5 +1,5 @@
 -- Lines of the pointer, taken one after another.
-use Rattle.std.proofs.Common.{◌≡◌, ℕ, suc, ℤ, ◌+◌, Bool, true, List, [], ◌∷◌, ◌++◌, refl, ap, sym, ◌∙◌, arith, append-nil, append_assoc, take-append-drop}
+use Rattle.std.proofs.Common.{Option, ◌≡◌, ℕ, suc, ℤ, ◌+◌, Bool, true, List, [], ◌∷◌, ◌++◌, refl, ap, sym, subst, ◌∙◌, arith, append-nil, append_assoc, take-append-drop}
 use Rattle.std.specs.Prelude.{if◌then◌else◌, drop, take}
 use Rattle.std.specs.List.{prefix_len}
 use Rattle.spec_desktop.specs.Act as act
@@ -7,12 +7,11 @@ use Rattle.spec_desktop.specs.Act.{Act}
 use Rattle.spec_desktop.specs.declared.answers.Done.TheVariants as gave
 use Rattle.wl_recording.specs.declared.pointer.PointerLine.{PointerLine}
 use Rattle.wl_recording.specs.declared.pointer.PointerLine.TheVariants.{Motion, Button, Skip, Bad}
-use Rattle.wl_session.specs.Course.{TakesCourse}
-use Rattle.wl_session.specs.View.{SessionView}
 use Rattle.wl_server.specs.Acting.{Stretch, Takes}
+use Rattle.wl_server.specs.Recorded.{RecordedView}
 use Rattle.wl_server.specs.Due.{due_at, is_due, left_at, asked_of}
 use Rattle.wl_server.specs.Phases.{Points}
-use Rattle.wl_server.proofs.Taking.{Takes-none, Takes-one, Takes-then, Takes-weaker}
+use Rattle.wl_server.proofs.Taking.{TakesNoted, Takes-none, Takes-one, Takes-then, Takes-weaker}
 
 -- ---- which lines are due
 
@@ -57,11 +56,11 @@ abbrev pub PointedTo : ℕ → List PointerLine → List PointerLine → Stretch
 PointedTo time from left start acts events end =
     (lines : List PointerLine) × (due_at time from ≡ lines ++ due_at time left) × Points lines start acts events end
 
-pub pointed-none : (time : ℕ) (lines : List PointerLine) (v : SessionView) → Takes (PointedTo time lines lines) v v
+pub pointed-none : {Writer : Type 0} {contents : Writer → Option (List ℕ)} (time : ℕ) (lines : List PointerLine) (v : RecordedView Writer) → Takes contents (PointedTo time lines lines) v v
 pointed-none time lines v = Takes-none (PointedTo time lines lines) v v refl (λ d agrees. ([], refl, refl))
 
-pub pointed-more : (time : ℕ) (from mid to : List PointerLine) (line : PointerLine) (old between new : SessionView) → mid ≡ line ∷ to → is_due time line ≡ true
-    → Takes (PointedTo time from mid) old between → Takes (Points (line ∷ [])) between new → Takes (PointedTo time from to) old new
+pub pointed-more : {Writer : Type 0} {contents : Writer → Option (List ℕ)} (time : ℕ) (from mid to : List PointerLine) (line : PointerLine) (old between new : RecordedView Writer) → mid ≡ line ∷ to → is_due time line ≡ true
+    → Takes contents (PointedTo time from mid) old between → Takes contents (Points (line ∷ [])) between new → Takes contents (PointedTo time from to) old new
 pointed-more time from mid to line old between new is due first next =
     Takes-then (PointedTo time from mid) (Points (line ∷ [])) (PointedTo time from to) old between new first next
     (λ start d e a b es fs ad ae leads goes p q. (
@@ -71,7 +70,7 @@ pointed-more time from mid to line old between new is due first next =
       ap (λ (front : List Act). front ++ b) p.2 ∙ (ap (λ (back : List Act). asked_of p.0 ++ back) q ∙ sym (asked-then p.0 (line ∷ []))),
     ))
 
-pub pointed-all : (time : ℕ) (from to : List PointerLine) (old new : SessionView) → due_at time to ≡ [] → Takes (PointedTo time from to) old new → Takes (Points (due_at time from)) old new
+pub pointed-all : {Writer : Type 0} {contents : Writer → Option (List ℕ)} (time : ℕ) (from to : List PointerLine) (old new : RecordedView Writer) → due_at time to ≡ [] → Takes contents (PointedTo time from to) old new → Takes contents (Points (due_at time from)) old new
 pointed-all time from to old new none takes =
     Takes-weaker (PointedTo time from to) (Points (due_at time from)) old new takes
     (λ d e a es ad ae runs p.
@@ -80,14 +79,21 @@ pointed-all time from to old new none takes =
 
 -- ---- one line
 
-pub point-motion : (line : PointerLine) (time : ℕ) (x y : ℤ) (old new : SessionView) → line ≡ Motion time x y → TakesCourse (act.Motion time x y) gave.Motion old new
-    → Takes (Points (line ∷ [])) old new
+-- a motion, whose coordinates are those that were kept
+pub motion-noted : {Writer : Type 0} (contents : Writer → Option (List ℕ)) (time : ℕ) (x y kept_x kept_y : ℤ) → kept_x ≡ x → kept_y ≡ y → (old new : RecordedView Writer)
+    → TakesNoted contents (act.Motion time kept_x kept_y) gave.Motion old new → TakesNoted contents (act.Motion time x y) gave.Motion old new
+motion-noted contents time x y kept_x kept_y is_x is_y old new takes =
+    subst (λ (u : ℤ). TakesNoted contents (act.Motion time u y) gave.Motion old new) is_x
+    (subst (λ (v : ℤ). TakesNoted contents (act.Motion time kept_x v) gave.Motion old new) is_y takes)
+
+pub point-motion : {Writer : Type 0} {contents : Writer → Option (List ℕ)} (line : PointerLine) (time : ℕ) (x y : ℤ) (old new : RecordedView Writer) → line ≡ Motion time x y → TakesNoted contents (act.Motion time x y) gave.Motion old new
+    → Takes contents (Points (line ∷ [])) old new
 point-motion line time x y old new is course =
     Takes-one (Points (line ∷ [])) (act.Motion time x y) gave.Motion old new course
     (λ d e events agrees parts. ap (λ (l : PointerLine). asked_of (l ∷ [])) (sym is))
 
-pub point-button : (line : PointerLine) (time code : ℕ) (pressed : Bool) (old new : SessionView) → line ≡ Button time code pressed
-    → TakesCourse (act.Button time code pressed) gave.Button old new → Takes (Points (line ∷ [])) old new
+pub point-button : {Writer : Type 0} {contents : Writer → Option (List ℕ)} (line : PointerLine) (time code : ℕ) (pressed : Bool) (old new : RecordedView Writer) → line ≡ Button time code pressed
+    → TakesNoted contents (act.Button time code pressed) gave.Button old new → Takes contents (Points (line ∷ [])) old new
 point-button line time code pressed old new is course =
     Takes-one (Points (line ∷ [])) (act.Button time code pressed) gave.Button old new course
     (λ d e events agrees parts. ap (λ (l : PointerLine). asked_of (l ∷ [])) (sym is))

@@ -10,11 +10,11 @@ use Rattle.std.proofs.lemmas.List.Elements.{All-append, All-cons, All-head, All-
 use Rattle.spec_desktop.specs.Act.{Act, Connect, Feed, Store, Leave, Tick, Send, Close, Motion, Button}
 use Rattle.spec_desktop.specs.Happenings.{Happening, Message, Receive, Single, Starve}
 use Rattle.spec_desktop.specs.declared.answers.Done.{Done}
+use Rattle.spec_desktop.specs.declared.answers.Done.TheVariants as gave
 use Rattle.wl_session.specs.Course.{AreParts, Runs, TakesCourse, happenings, moment}
 use Rattle.wl_session.specs.Agreeing.{Agrees}
 use Rattle.spec_desktop.specs.Desktop.{Desktop}
 use Rattle.wl_session.specs.Events.{AreEvents, Event, Moment}
-use Rattle.wl_session.specs.View.{SessionView}
 use Rattle.std.proofs.Common.{None, Some}
 use Rattle.wl_server.specs.declared.seat.Seat.{Seat}
 use Rattle.wl_recording.specs.Side.{Files}
@@ -22,13 +22,17 @@ use Rattle.wl_recording.specs.declared.pointer.PointerLine.{PointerLine}
 use Rattle.wl_recording.specs.declared.pointer.PointerLine.TheVariants as line
 use Rattle.wl_recording.specs.declared.range.StoreRange.{StoreRange}
 use Rattle.wl_server.specs.Acting.{InTurn, Stretch, Takes}
+use Rattle.wl_session.specs.View.{SessionView}
+use Rattle.wl_recording.specs.Recording.{Recorded}
+use Rattle.wl_server.specs.Recorded.{Looks, NotesOf, OnBoth, RecordedView}
+use Rattle.wl_server.proofs.Histories.{noted-behind}
 use Rattle.wl_server.specs.Due.{asked_of}
-use Rattle.wl_server.specs.Phases.{Accepts, AcceptsAll, AtSeat, Closes, ClosesIf, EndsReading, Fills, FillsAs, FillsIf, FillsSeat, FillsUpTo, IfSeated, Link, Place, Points, PutsSized, Reads, ReadsClient, ReadsUntil, IsSixteen, StopsReading, Writes, WritesClient, WritesSome, leaves_if}
+use Rattle.wl_server.specs.Phases.{Accepts, AcceptsAll, AtSeat, Closes, ClosesIf, EndsReading, Fills, FillsAs, FillsIf, FillsSeat, FillsUpTo, IfSeated, Link, Place, Points, PutsSized, Reads, ReadsClient, ReadsUntil, IsSixteen, Shows, StopsReading, Writes, WritesClient, WritesSome, leaves_if}
 use Rattle.wl_server.specs.Filling.{PutsIf, PutsPart, puts_from}
 use Rattle.wl_server.specs.Ranges.{PutsRangeIn, PutsRanges}
 use Rattle.wl_server.specs.Ways.{Ways}
-use Rattle.wl_server.specs.Telling.{Reports, Telling, Tells, gathered, if_painted, pictured, reported}
-use Rattle.wl_server.proofs.Taking.{Joins, Weakens, went-none, went-one, went-then}
+use Rattle.wl_server.specs.Telling.{Reports, Telling, Tells, TellsFrame, gathered, if_painted, pictured, reported}
+use Rattle.wl_server.proofs.Taking.{Joins, Takes-one, TakesNoted, Weakens, went-looking, went-none, went-one, went-then}
 
 -- ---- events one after another
 
@@ -339,99 +343,123 @@ all-closes-pass w n from to =
 
 -- ---- the report
 
-pub Reports-none : (P : Stretch) (old new : SessionView) (report : Option (List ℕ)) → new ≡ old → ((d : Desktop) → Agrees old.desk d → P (moment d old) [] [] (moment d new))
-    → Reports P old new report report
+pub Reports-none : {Writer : Type 0} {contents : Writer → Option (List ℕ)} (P : Stretch) (old new : RecordedView Writer) (report : Option (List ℕ)) → new ≡ old → ((d : Desktop) → Agrees old.session.desk d → P (moment d old.session) [] [] (moment d new.session))
+    → Reports contents P old new report report
 Reports-none P old new report same p = λ d agrees. ([], went-none old new d same agrees, p d agrees, Appends-nil report)
 
 -- a step that is one event, and its line
-pub Reports-one : (P : Stretch) (act : Act) (done : Done) (old new : SessionView) (report told : Option (List ℕ)) (parts : (hs : List Happening) → AreParts act done hs
+pub Reports-one : {Writer : Type 0} {contents : Writer → Option (List ℕ)} (P : Stretch) (act : Act) (done : Done) (old new : RecordedView Writer) (report told : Option (List ℕ)) (parts : (hs : List Happening) → AreParts act done hs
     → hs ≡ Single act done ∷ [])
-    → TakesCourse act done old new → ((d e : Desktop) (events : List Event) → Agrees old.desk d → happenings events ≡ Single act done ∷ [] → P (moment d old) (act ∷ []) events (moment e new))
-    → ((d e : Desktop) → Agrees old.desk d → Appends report told (reported (Single act done) (moment d old) (moment e new)))
-    → Reports P old new report told
+    → TakesNoted contents act done old new → ((d e : Desktop) (events : List Event) → Agrees old.session.desk d → happenings events ≡ Single act done ∷ [] → P (moment d old.session) (act ∷ []) events (moment e new.session))
+    → ((d e : Desktop) → Agrees old.session.desk d → Appends report told (reported (Single act done) (moment d old.session) (moment e new.session)))
+    → Reports contents P old new report told
 Reports-one P act done old new report told parts takes p line = λ d agrees.
-    let course = takes d agrees in
+    let course = takes.0 d agrees in
     let one = parts (happenings course.events) course.parts in
-    let is = told-single reported (Single act done) (moment d old) (moment course.desktop new) course.events one course.leads in
-    (act ∷ [], went-one act done old new d course, p d course.desktop course.events agrees one, subst (Appends report told) (sym is) (line d course.desktop agrees))
+    let is = told-single reported (Single act done) (moment d old.session) (moment course.desktop new.session) course.events one course.leads in
+    (act ∷ [], went-one act done old new d agrees course takes.1, p d course.desktop course.events agrees one, subst (Appends report told) (sym is) (line d course.desktop agrees))
 
-pub Reports-then : (P Q R : Stretch) (old mid new : SessionView) (x y z : Option (List ℕ)) → Reports P old mid x y → Reports Q mid new y z
-    → Joins P Q R mid new → Reports R old new x z
+pub Reports-then : {Writer : Type 0} {contents : Writer → Option (List ℕ)} (P Q R : Stretch) (old mid new : RecordedView Writer) (x y z : Option (List ℕ)) → Reports contents P old mid x y → Reports contents Q mid new y z
+    → Joins P Q R mid.session new.session → Reports contents R old new x z
 Reports-then P Q R old mid new x y z first next join = λ d agrees.
     let a = first d agrees in
     let b = next a.1.desktop a.1.agrees in (
       a.0 ++ b.0,
       went-then a.0 b.0 old mid new d a.1 b.1,
-      join (moment d old) a.1.desktop b.1.desktop a.0 b.0 a.1.events b.1.events a.1.agrees b.1.agrees a.1.runs b.1.runs a.2 b.2,
+      join (moment d old.session) a.1.desktop b.1.desktop a.0 b.0 a.1.events b.1.events a.1.agrees b.1.agrees a.1.runs b.1.runs a.2 b.2,
       appends-then reported a.1.events b.1.events x y z a.3 b.3,
     )
 
-pub Reports-weaker : (P Q : Stretch) (old new : SessionView) (x y : Option (List ℕ)) → Reports P old new x y → Weakens P Q old new → Reports Q old new x y
+pub Reports-weaker : {Writer : Type 0} {contents : Writer → Option (List ℕ)} (P Q : Stretch) (old new : RecordedView Writer) (x y : Option (List ℕ)) → Reports contents P old new x y → Weakens P Q old.session new.session → Reports contents Q old new x y
 Reports-weaker P Q old new x y reports weaker = λ d agrees.
     let a = reports d agrees in (a.0, a.1, weaker d a.1.desktop a.0 a.1.events agrees a.1.agrees a.1.runs a.2, a.3)
 
 -- what is said of the acts is said of a value that is known
-pub Reports-is : {X : Type 0} (P : X → Stretch) (a b : X) (old new : SessionView) (x y : Option (List ℕ)) → a ≡ b → Reports (P a) old new x y → Reports (P b) old new x y
-Reports-is P a b old new x y same reports = subst (λ (v : _). Reports (P v) old new x y) same reports
+pub Reports-is : {X : Type 0} {Writer : Type 0} {contents : Writer → Option (List ℕ)} (P : X → Stretch) (a b : X) (old new : RecordedView Writer) (x y : Option (List ℕ)) → a ≡ b → Reports contents (P a) old new x y → Reports contents (P b) old new x y
+Reports-is {X} {Writer} {contents} P a b old new x y same reports = subst (λ (v : _). Reports contents (P v) old new x y) same reports
 
-pub Tells-is : {X : Type 0} (P : X → Stretch) (a b : X) (old new : SessionView) (x y i j : Option (List ℕ)) → a ≡ b → Tells (P a) old new x y i j → Tells (P b) old new x y i j
-Tells-is P a b old new x y i j same tells = subst (λ (v : _). Tells (P v) old new x y i j) same tells
+pub Tells-is : {X : Type 0} {Writer : Type 0} {contents : Writer → Option (List ℕ)} (P : X → Stretch) (a b : X) (old new : RecordedView Writer) (x y i j : Option (List ℕ)) → a ≡ b → Tells contents (P a) old new x y i j → Tells contents (P b) old new x y i j
+Tells-is {X} {Writer} {contents} P a b old new x y i j same tells = subst (λ (v : _). Tells contents (P v) old new x y i j) same tells
 
-pub Takes-told : (P : Stretch) (old new : SessionView) (x y : Option (List ℕ)) → Reports P old new x y → Takes P old new
+pub Takes-told : {Writer : Type 0} {contents : Writer → Option (List ℕ)} (P : Stretch) (old new : RecordedView Writer) (x y : Option (List ℕ)) → Reports contents P old new x y → Takes contents P old new
 Takes-told P old new x y reports = λ d agrees. let a = reports d agrees in (a.0, a.1, a.2)
 
 -- ---- the report and the images
 
 -- nothing is told
-pub Tells-quiet : (P : Stretch) (old new : SessionView) (report images : Option (List ℕ)) → PassesAll has_no_line P → Takes P old new
-    → Tells P old new report report images images
+pub Tells-quiet : {Writer : Type 0} {contents : Writer → Option (List ℕ)} (P : Stretch) (old new : RecordedView Writer) (report images : Option (List ℕ)) → PassesAll has_no_line P → Takes contents P old new
+    → Tells contents P old new report report images images
 Tells-quiet P old new report images pass takes = λ d agrees.
     let a = takes d agrees in
     let went = a.1 in
-    let lines = pass (moment d old) (moment went.desktop new) a.0 went.events a.2 in
+    let lines = pass (moment d old.session) (moment went.desktop new.session) a.0 went.events a.2 in
     let pictures = All-weaker (λ act. has_no_line act ≡ true) (λ act. has_no_picture act ≡ true) no-line-no-picture a.0 lines in
-    let unsaid = runs-quiet reported has_no_line a.0 (moment d old) (moment went.desktop new) went.events report-silent lines went.runs in
-    let unseen = runs-quiet pictured has_no_picture a.0 (moment d old) (moment went.desktop new) went.events picture-silent pictures went.runs in
+    let unsaid = runs-quiet reported has_no_line a.0 (moment d old.session) (moment went.desktop new.session) went.events report-silent lines went.runs in
+    let unseen = runs-quiet pictured has_no_picture a.0 (moment d old.session) (moment went.desktop new.session) went.events picture-silent pictures went.runs in
     (a.0, went, a.2, (subst (Appends report report) (sym unsaid) (Appends-nil report), subst (Appends images images) (sym unseen) (Appends-nil images)))
 
 -- nothing is shown
-pub Tells-unseen : (P : Stretch) (old new : SessionView) (report told images : Option (List ℕ)) → PassesAll has_no_picture P → Reports P old new report told
-    → Tells P old new report told images images
+pub Tells-unseen : {Writer : Type 0} {contents : Writer → Option (List ℕ)} (P : Stretch) (old new : RecordedView Writer) (report told images : Option (List ℕ)) → PassesAll has_no_picture P → Reports contents P old new report told
+    → Tells contents P old new report told images images
 Tells-unseen P old new report told images pass reports = λ d agrees.
     let a = reports d agrees in
     let went = a.1 in
-    let unseen = runs-quiet pictured has_no_picture a.0 (moment d old) (moment went.desktop new) went.events picture-silent (pass (moment d old) (moment went.desktop new) a.0 went.events a.2) went.runs in
+    let unseen = runs-quiet pictured has_no_picture a.0 (moment d old.session) (moment went.desktop new.session) went.events picture-silent (pass (moment d old.session) (moment went.desktop new.session) a.0 went.events a.2) went.runs in
     (a.0, went, a.2, (a.3, subst (Appends images images) (sym unseen) (Appends-nil images)))
 
-pub Tells-then : (P Q R : Stretch) (old mid new : SessionView) (x y z i j k : Option (List ℕ)) → Tells P old mid x y i j → Tells Q mid new y z j k
-    → Joins P Q R mid new → Tells R old new x z i k
+pub Tells-then : {Writer : Type 0} {contents : Writer → Option (List ℕ)} (P Q R : Stretch) (old mid new : RecordedView Writer) (x y z i j k : Option (List ℕ)) → Tells contents P old mid x y i j → Tells contents Q mid new y z j k
+    → Joins P Q R mid.session new.session → Tells contents R old new x z i k
 Tells-then P Q R old mid new x y z i j k first next join = λ d agrees.
     let a = first d agrees in
     let b = next a.1.desktop a.1.agrees in (
       a.0 ++ b.0,
       went-then a.0 b.0 old mid new d a.1 b.1,
-      join (moment d old) a.1.desktop b.1.desktop a.0 b.0 a.1.events b.1.events a.1.agrees b.1.agrees a.1.runs b.1.runs a.2 b.2,
+      join (moment d old.session) a.1.desktop b.1.desktop a.0 b.0 a.1.events b.1.events a.1.agrees b.1.agrees a.1.runs b.1.runs a.2 b.2,
       (appends-then reported a.1.events b.1.events x y z a.3.0 b.3.0, appends-then pictured a.1.events b.1.events i j k a.3.1 b.3.1),
     )
 
-pub Tells-weaker : (P Q : Stretch) (old new : SessionView) (x y i j : Option (List ℕ)) → Tells P old new x y i j → Weakens P Q old new → Tells Q old new x y i j
+pub Tells-weaker : {Writer : Type 0} {contents : Writer → Option (List ℕ)} (P Q : Stretch) (old new : RecordedView Writer) (x y i j : Option (List ℕ)) → Tells contents P old new x y i j → Weakens P Q old.session new.session → Tells contents Q old new x y i j
 Tells-weaker P Q old new x y i j tells weaker = λ d agrees.
     let a = tells d agrees in (a.0, a.1, weaker d a.1.desktop a.0 a.1.events agrees a.1.agrees a.1.runs a.2, a.3)
 
+-- whoever ended is looked at behind what is told
+pub Tells-looking : {Writer : Type 0} {contents : Writer → Option (List ℕ)} (P : Stretch) (old mid new : RecordedView Writer) (x y i j : Option (List ℕ)) → new.session ≡ mid.session
+    → OnBoth (Looks contents mid.session) mid.recording new.recording → Tells contents P old mid x y i j → Tells contents P old new x y i j
+Tells-looking P old mid new x y i j same looks tells = λ d agrees.
+    let a = tells d agrees in
+    (a.0, went-looking a.0 old mid new d same looks a.1, subst (λ (v : SessionView). P (moment d old.session) a.0 a.1.events (moment a.1.desktop v)) (sym same) a.2, a.3)
+
 -- a step that is one event, with its line and its picture
-pub Tells-one : (P : Stretch) (act : Act) (done : Done) (old new : SessionView) (report told images imaged : Option (List ℕ)) (parts : (hs : List Happening) → AreParts act done hs
+pub Tells-one : {Writer : Type 0} {contents : Writer → Option (List ℕ)} (P : Stretch) (act : Act) (done : Done) (old new : RecordedView Writer) (report told images imaged : Option (List ℕ)) (parts : (hs : List Happening) → AreParts act done hs
     → hs ≡ Single act done ∷ [])
-    → TakesCourse act done old new → ((d e : Desktop) (events : List Event) → P (moment d old) (act ∷ []) events (moment e new))
-    → ((d e : Desktop) → Agrees old.desk d → Appends report told (reported (Single act done) (moment d old) (moment e new))
-    × Appends images imaged (pictured (Single act done) (moment d old) (moment e new)))
-    → Tells P old new report told images imaged
+    → TakesNoted contents act done old new → ((d e : Desktop) (events : List Event) → P (moment d old.session) (act ∷ []) events (moment e new.session))
+    → ((d e : Desktop) → Agrees old.session.desk d → Appends report told (reported (Single act done) (moment d old.session) (moment e new.session))
+    × Appends images imaged (pictured (Single act done) (moment d old.session) (moment e new.session)))
+    → Tells contents P old new report told images imaged
 Tells-one P act done old new report told images imaged parts takes p shown = λ d agrees.
-    let course = takes d agrees in
+    let course = takes.0 d agrees in
     let both = shown d course.desktop agrees in
     let one = parts (happenings course.events) course.parts in
-    let line = told-single reported (Single act done) (moment d old) (moment course.desktop new) course.events one course.leads in
-    let picture = told-single pictured (Single act done) (moment d old) (moment course.desktop new) course.events one course.leads in
-    (act ∷ [], went-one act done old new d course, p d course.desktop course.events, (subst (Appends report told) (sym line) both.0, subst (Appends images imaged) (sym picture) both.1))
+    let line = told-single reported (Single act done) (moment d old.session) (moment course.desktop new.session) course.events one course.leads in
+    let picture = told-single pictured (Single act done) (moment d old.session) (moment course.desktop new.session) course.events one course.leads in
+    (act ∷ [], went-one act done old new d agrees course takes.1, p d course.desktop course.events, (subst (Appends report told) (sym line) both.0, subst (Appends images imaged) (sym picture) both.1))
+
+-- ---- a frame is shown, and noted behind those that ended before it
+
+pub shows-tick : {Writer : Type 0} {contents : Writer → Option (List ℕ)} (time : ℕ) (u v : SessionView) (r s t : Option (Recorded Writer)) → OnBoth (Looks contents u) r s
+    → OnBoth (NotesOf contents (Tick time) gave.Tick) s t → TakesCourse (Tick time) gave.Tick u v
+    → Takes contents (Shows time) (record { session = u; recording = r }) (record { session = v; recording = t })
+shows-tick {Writer} {contents} time u v r s t looks notes course =
+    Takes-one (Shows time) (Tick time) gave.Tick (record { session = u; recording = r }) (record { session = v; recording = t })
+    (course, noted-behind contents u (Tick time) gave.Tick r s t looks notes) (λ d e es agrees parts. refl)
+
+pub tells-tick : {Writer : Type 0} {contents : Writer → Option (List ℕ)} (P : Stretch) (time : ℕ) (u v : SessionView) (r s t : Option (Recorded Writer)) (x y i j : Option (List ℕ))
+    → OnBoth (Looks contents u) r s → OnBoth (NotesOf contents (Tick time) gave.Tick) s t → TakesCourse (Tick time) gave.Tick u v
+    → ((d e : Desktop) (events : List Event) → P (moment d u) (Tick time ∷ []) events (moment e v)) → TellsFrame time u v x y i j
+    → Tells contents P (record { session = u; recording = r }) (record { session = v; recording = t }) x y i j
+tells-tick {Writer} {contents} P time u v r s t x y i j looks notes course p told =
+    Tells-one P (Tick time) gave.Tick (record { session = u; recording = r }) (record { session = v; recording = t }) x y i j (λ hs is. is)
+    (course, noted-behind contents u (Tick time) gave.Tick r s t looks notes) p told
 
 -- ---- a frame for which something is painted, and one for which nothing is
 

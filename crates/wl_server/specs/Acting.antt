@@ -1,5 +1,5 @@
 -- What a session does, as acts of the plain desktop and the events that they are.
-use Rattle.std.specs.Prelude.{ℕ, zero, suc, ◌≡◌, ◌<◌, pos, Bool, true, false, List, [], ◌∷◌, ◌++◌}
+use Rattle.std.specs.Prelude.{ℕ, zero, suc, ◌≡◌, ◌<◌, pos, Bool, true, false, List, [], ◌∷◌, ◌++◌, Option}
 use Rattle.wl_session.specs.Frame.{color_at}
 use Rattle.spec_desktop.specs.Act.{Act}
 use Rattle.spec_desktop.specs.Desktop.{Desktop}
@@ -10,27 +10,28 @@ use Rattle.wl_session.specs.Course.{Runs, moment}
 use Rattle.wl_session.specs.Events.{AreApart, Event, Moment, is_frame}
 use Rattle.wl_session.specs.Liars.{AreLiars, IsRightBut}
 use Rattle.wl_session.specs.Unmarked.{is_covered}
-use Rattle.wl_session.specs.View.{SessionView}
+use Rattle.wl_server.specs.Recorded.{GoesOn, OnBoth, RecordedView}
 
 -- These acts lead a session from old to new, one event after another: from the desktop d that agrees before to one that agrees after. What
--- each of them may do, has to mark and shows is said of a session's runs.
-pub record Went (acts : List Act) (old new : SessionView) (d : Desktop) : Type 0 where
+-- each of them may do, has to mark and shows is said of a session's runs. Its recording, if there is one, goes on by the notes of these acts.
+pub record Went {W : Type 0} (contents : W → Option (List ℕ)) (acts : List Act) (old new : RecordedView W) (d : Desktop) : Type 0 where
   pub desktop : Desktop
   pub events : List Event
-  pub runs : Runs (moment d old) acts events (moment desktop new)
+  pub runs : Runs (moment d old.session) acts events (moment desktop new.session)
   pub apart : AreApart events
-  pub agrees : Agrees new.desk desktop
+  pub agrees : Agrees new.session.desk desktop
+  pub noted : OnBoth (GoesOn contents (moment d old.session) acts events (moment desktop new.session)) old.recording new.recording
 
 -- What is said of a stretch of a session: of the moment that it begins at, its acts, the events that they are, and the moment that it
 -- ends at.
 abbrev pub Stretch : Type 1
 Stretch = Moment → List Act → List Event → Moment → Type 0
 
--- A session went from old to new by acts of which P holds, whatever desktop agrees with it before.
-abbrev pub Takes : Stretch → SessionView → SessionView → Type 0
-Takes P old new =
-    (d : Desktop) → Agrees old.desk d → (acts : List Act) × (went : Went acts old new d)
-    × P (moment d old) acts went.events (moment went.desktop new)
+-- A session went from old to new by acts of which P holds, whatever desktop agrees with it before, and its recording by their notes.
+abbrev pub Takes : {W : Type 0} → (W → Option (List ℕ)) → Stretch → RecordedView W → RecordedView W → Type 0
+Takes contents P old new =
+    (d : Desktop) → Agrees old.session.desk d → (acts : List Act) × (went : Went contents acts old new d)
+    × P (moment d old.session) acts went.events (moment went.desktop new.session)
 
 -- Each frame among these events shows the desktop as the frame began, painted from nothing in stacking order, at each point that no window
 -- covers of a client that broke its promises since it connected.
@@ -42,15 +43,15 @@ ShowsScratch liars events =
     → is_covered all_windows broke frame.before.desktop (pos x) (pos y) ≡ false
     → color_at frame.after.frame x y ≡ scratch frame.before.frame.background frame.before.desktop (pos x) (pos y)
 
--- A session went from old to new by acts of which P holds, and of their events Q. Where it was right but for some clients, its frames are,
+-- A session went so from old to new by acts of which P holds, and of their events Q. Where it was right but for some clients, its frames are,
 -- and it stays so but for them and those that break a promise meanwhile.
-abbrev pub IsServed : Stretch → (List Event → Type 0) → SessionView → SessionView → Type 0
-IsServed P Q old new =
-    (d : Desktop) → Agrees old.desk d
-    → (acts : List Act) × (went : Went acts old new d) × P (moment d old) acts went.events (moment went.desktop new) × Q went.events
-    × ((liars : ℕ → Bool) → IsRightBut liars (moment d old) → ShowsScratch liars went.events)
-    × ((liars last : ℕ → Bool) → AreLiars liars went.events last → IsRightBut liars (moment d old)
-    → IsRightBut last (moment went.desktop new))
+abbrev pub IsServed : {W : Type 0} → (W → Option (List ℕ)) → Stretch → (List Event → Type 0) → RecordedView W → RecordedView W → Type 0
+IsServed contents P Q old new =
+    (d : Desktop) → Agrees old.session.desk d
+    → (acts : List Act) × (went : Went contents acts old new d) × P (moment d old.session) acts went.events (moment went.desktop new.session) × Q went.events
+    × ((liars : ℕ → Bool) → IsRightBut liars (moment d old.session) → ShowsScratch liars went.events)
+    × ((liars last : ℕ → Bool) → AreLiars liars went.events last → IsRightBut liars (moment d old.session)
+    → IsRightBut last (moment went.desktop new.session))
 
 -- ---- what is done to what a server works on, while a session goes on
 

@@ -94,15 +94,15 @@ NotesAct (Close client) done from to = to ≡ from
 NotesAct (Motion time x y) done from to = to ≡ with_lines (line.Motion time x y ∷ []) from
 NotesAct (Button time button pressed) done from to = to ≡ with_lines (line.Button time button pressed ∷ []) from
 
--- A session went on from a moment by these acts, each with its events, and these are the notes of them: each act is noted behind those that ended
--- before it.
-pub data History (start : Moment) : List Act → List Event → Notes → Moment → Type 0 where
-  begins : History start [] [] no_notes start
+-- A session went on from a moment by these acts, each with its events, and the notes of them stand behind those before: each act is noted behind
+-- those that ended before it.
+pub data History (start : Moment) (before : Notes) : List Act → List Event → Notes → Moment → Type 0 where
+  begins : History start before [] [] before start
   goes_on : {acts : List Act} {events : List Event} {notes next : Notes} {mid end : Moment} (act : Act) (done : Done) (first : List Event) (looks : ℕ)
-      → History start acts events notes mid
+      → History start before acts events notes mid
       → Happens act done mid.desktop end.desktop → AreParts act done (happenings first) → AreEvents mid first end
       → NotesAct act done (looked (suc looks) mid.desktop notes) next
-      → History start (acts ++ act ∷ []) (events ++ first) next end
+      → History start before (acts ++ act ∷ []) (events ++ first) next end
 
 -- Behind what its writer held at first a recording holds these notes, unless a write failed: a line for each thing that they ask, 1,000,000 at
 -- most, and nothing else.
@@ -120,7 +120,7 @@ pub record IsRecordedBy {W : Type 0} (contents : W → Option (List ℕ)) (sessi
   pub events : List Event
   pub notes : Notes
   pub desktop : Desktop
-  pub history : History (moment (empty (record { width = width; height = height })) start) acts events notes (moment desktop session)
+  pub history : History (moment (empty (record { width = width; height = height })) start) no_notes acts events notes (moment desktop session)
   pub agrees : Agrees session.desk desktop
   pub looks : ℕ
   pub first : Option (List ℕ)
@@ -156,6 +156,22 @@ abbrev pub NotesOf : {W : Type 0} → (W → Option (List ℕ)) → Act → Done
 NotesOf contents act done old new =
     (first : Option (List ℕ)) (notes : Notes) → HoldsNotes contents first notes old
     → (next : Notes) × NotesAct act done notes next × HoldsNotes contents first next new
+
+-- an act of a session is noted behind those that ended before it
+abbrev pub NotesNext : {W : Type 0} → (W → Option (List ℕ)) → SessionView → Act → Done → Recorded W → Recorded W → Type 0
+NotesNext contents session act done old new =
+    (d : Desktop) → Agrees session.desk d → (first : Option (List ℕ)) (notes : Notes) → HoldsNotes contents first notes old
+    → (next : Notes) × NotesAct act done (looked_up_to 32 d notes) next × HoldsNotes contents first next new
+
+-- it is noted in the recording, if there is one
+abbrev pub IsNoted : {W : Type 0} → (W → Option (List ℕ)) → Act → Done → RecordedView W → RecordedView W → Type 0
+IsNoted contents act done old new = OnBoth (NotesNext contents old.session act done) old.recording new.recording
+
+-- A recording held some notes behind what its writer held at first. It holds them still, and behind them the notes of these acts.
+abbrev pub GoesOn : {W : Type 0} → (W → Option (List ℕ)) → Moment → List Act → List Event → Moment → Recorded W → Recorded W → Type 0
+GoesOn contents start acts events end old new =
+    (first : Option (List ℕ)) (notes : Notes) → HoldsNotes contents first notes old
+    → (looks : ℕ) × (next : Notes) × History start notes acts events next end × HoldsNotes contents first (looked looks end.desktop next) new
 
 -- what was written isn't held back
 abbrev pub Flushes : {W : Type 0} → (W → Option (List ℕ)) → Recorded W → Recorded W → Type 0

@@ -17,6 +17,7 @@ use Rattle.wl_session.specs.Events.{Event, Moment}
 use Rattle.wl_session.specs.Image.{image_of}
 use Rattle.wl_session.specs.View.{SessionView}
 use Rattle.wl_server.specs.Acting.{Stretch, Went}
+use Rattle.wl_server.specs.Recorded.{RecordedView}
 
 -- what is told of one event, from one moment to another
 abbrev pub Telling : Type 0
@@ -98,14 +99,20 @@ abbrev pub IsToldOf : Option (List ℕ) → Option (List ℕ) → Option (List �
 IsToldOf report told images imaged events = Appends report told (gathered reported events)
     × Appends images imaged (gathered pictured events)
 
--- A session went from old to new by acts of which P holds, and the report tells of them.
-abbrev pub Reports : Stretch → SessionView → SessionView → Option (List ℕ) → Option (List ℕ) → Type 0
-Reports P old new report told =
-    (d : Desktop) → Agrees old.desk d → (acts : List Act) × (went : Went acts old new d)
-    × P (moment d old) acts went.events (moment went.desktop new) × Appends report told (gathered reported went.events)
+-- A session went from old to new by acts of which P holds, its recording by their notes, and the report tells of them.
+abbrev pub Reports : {W : Type 0} → (W → Option (List ℕ)) → Stretch → RecordedView W → RecordedView W → Option (List ℕ) → Option (List ℕ) → Type 0
+Reports contents P old new report told =
+    (d : Desktop) → Agrees old.session.desk d → (acts : List Act) × (went : Went contents acts old new d)
+    × P (moment d old.session) acts went.events (moment went.desktop new.session) × Appends report told (gathered reported went.events)
 
 -- The same, and the images show them.
-abbrev pub Tells : Stretch → SessionView → SessionView → Option (List ℕ) → Option (List ℕ) → Option (List ℕ) → Option (List ℕ) → Type 0
-Tells P old new report told images imaged =
-    (d : Desktop) → Agrees old.desk d → (acts : List Act) × (went : Went acts old new d)
-    × P (moment d old) acts went.events (moment went.desktop new) × IsToldOf report told images imaged went.events
+abbrev pub Tells : {W : Type 0} → (W → Option (List ℕ)) → Stretch → RecordedView W → RecordedView W → Option (List ℕ) → Option (List ℕ) → Option (List ℕ) → Option (List ℕ) → Type 0
+Tells contents P old new report told images imaged =
+    (d : Desktop) → Agrees old.session.desk d → (acts : List Act) × (went : Went contents acts old new d)
+    × P (moment d old.session) acts went.events (moment went.desktop new.session) × IsToldOf report told images imaged went.events
+
+-- A frame's line is told, and its picture, wherever it leads from one session to another.
+abbrev pub TellsFrame : ℕ → SessionView → SessionView → Option (List ℕ) → Option (List ℕ) → Option (List ℕ) → Option (List ℕ) → Type 0
+TellsFrame time old new report told images imaged =
+    (d e : Desktop) → Agrees old.desk d → Appends report told (reported (Single (Tick time) gave.Tick) (moment d old) (moment e new))
+    × Appends images imaged (pictured (Single (Tick time) gave.Tick) (moment d old) (moment e new))

@@ -29,12 +29,12 @@ pub(crate) fn accept_all<A: Allocator + Copy, R: Write, H: Hub, W: Write>(
     report: &mut W,
 ) -> Result<(), TurnError>
     requires { length seats.old ≡ 32 }
-    ensures told { OnOk result (Reports (AcceptsAll (ways H.accepts H.reads H.writes H.closes H.fault_count)
+    ensures told { OnOk result (Reports R.contents (AcceptsAll (ways H.accepts H.reads H.writes H.closes H.fault_count)
         (hub.old, record { accepted = accepted.old; seats = seats.old }) (hub.new, record { accepted = accepted.new; seats = seats.new }))
-        recorded.old.session recorded.new.session (W.contents report.old) (W.contents report.new)) }
-    ensures begun { OnErr result (Takes (BeginsAccepting (ways H.accepts H.reads H.writes H.closes H.fault_count)
+        recorded.old recorded.new (W.contents report.old) (W.contents report.new)) }
+    ensures begun { OnErr result (Takes R.contents (BeginsAccepting (ways H.accepts H.reads H.writes H.closes H.fault_count)
         (hub.old, record { accepted = accepted.old; seats = seats.old }) (hub.new, record { accepted = accepted.new; seats = seats.new }))
-        recorded.old.session recorded.new.session) }
+        recorded.old recorded.new) }
 {
     for before in 0..ACCEPTS {
         if !accept_one(hub, recorded, seats, accepted, report)? {
@@ -53,12 +53,12 @@ fn accept_one<A: Allocator + Copy, R: Write, H: Hub, W: Write>(
     report: &mut W,
 ) -> Result<bool, TurnError>
     requires { length seats.old ≡ 32 }
-    ensures told { IfOk result (λ more. Reports (AcceptsOne (ways H.accepts H.reads H.writes H.closes H.fault_count) more
+    ensures told { IfOk result (λ more. Reports R.contents (AcceptsOne (ways H.accepts H.reads H.writes H.closes H.fault_count) more
         (hub.old, record { accepted = accepted.old; seats = seats.old }) (hub.new, record { accepted = accepted.new; seats = seats.new }))
-        recorded.old.session recorded.new.session (W.contents report.old) (W.contents report.new)) }
-    ensures taken { OnErr result (Takes (Accepts (ways H.accepts H.reads H.writes H.closes H.fault_count)
+        recorded.old recorded.new (W.contents report.old) (W.contents report.new)) }
+    ensures taken { OnErr result (Takes R.contents (Accepts (ways H.accepts H.reads H.writes H.closes H.fault_count)
         (hub.old, record { accepted = accepted.old; seats = seats.old }) (hub.new, record { accepted = accepted.new; seats = seats.new }))
-        recorded.old.session recorded.new.session) }
+        recorded.old recorded.new) }
 {
     if *accepted == u32::MAX {
         return Ok(false);

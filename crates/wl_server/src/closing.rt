@@ -26,10 +26,10 @@ pub(crate) fn close_all<A: Allocator + Copy, R: Write, H: Hub, W: Write>(
     report: &mut W,
 ) -> Result<(), TurnError>
     requires { length seats.old ≡ 32 }
-    ensures told { OnOk result (Reports (InTurn (AtSeat (Closes (ways H.accepts H.reads H.writes H.closes H.fault_count))) 32 (hub.old, seats.old) (hub.new, seats.new))
-        recorded.old.session recorded.new.session (W.contents report.old) (W.contents report.new)) }
-    ensures begun { OnErr result ((n : ℕ) × (n ≤ 32) × Takes (InTurn (AtSeat (Closes (ways H.accepts H.reads H.writes H.closes H.fault_count))) n (hub.old, seats.old) (hub.new, seats.new))
-        recorded.old.session recorded.new.session) }
+    ensures told { OnOk result (Reports R.contents (InTurn (AtSeat (Closes (ways H.accepts H.reads H.writes H.closes H.fault_count))) 32 (hub.old, seats.old) (hub.new, seats.new))
+        recorded.old recorded.new (W.contents report.old) (W.contents report.new)) }
+    ensures begun { OnErr result ((n : ℕ) × (n ≤ 32) × Takes R.contents (InTurn (AtSeat (Closes (ways H.accepts H.reads H.writes H.closes H.fault_count))) n (hub.old, seats.old) (hub.new, seats.new))
+        recorded.old recorded.new) }
 {
     for k in 0..seats.len() {
         close_seat(hub, recorded, k as u32 + 1, &mut seats[k], report)?;
@@ -46,9 +46,9 @@ fn close_seat<A: Allocator + Copy, R: Write, H: Hub, W: Write>(
     seat: &mut Option<Seat<H::Conn>>,
     report: &mut W,
 ) -> Result<(), TurnError>
-    ensures told { OnOk result (Reports (Closes (ways H.accepts H.reads H.writes H.closes H.fault_count) client (hub.old, seat.old) (hub.new, seat.new))
-        recorded.old.session recorded.new.session (W.contents report.old) (W.contents report.new)) }
-    ensures kept { OnErr result ((recorded.new.session ≡ recorded.old.session) × (hub.new ≡ hub.old) × (seat.new ≡ seat.old)) }
+    ensures told { OnOk result (Reports R.contents (Closes (ways H.accepts H.reads H.writes H.closes H.fault_count) client (hub.old, seat.old) (hub.new, seat.new))
+        recorded.old recorded.new (W.contents report.old) (W.contents report.new)) }
+    ensures kept { OnErr result ((recorded.new ≡ recorded.old) × (hub.new ≡ hub.old) × (seat.new ≡ seat.old)) }
 {
     let Fed::Ended(cause) = recorded.session.status(client) else {
         return Ok(());

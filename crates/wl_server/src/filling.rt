@@ -47,7 +47,7 @@ pub(crate) fn fill_all<A: Allocator + Copy, R: Write, C: Drop, S: SideFiles>(
     side: &mut S,
 )
     requires { length seats.now ≡ 32 }
-    ensures { Takes (InTurn (Fills (files_of S.opens S.gives S.fault_count) seats.now) 32 side.old side.new) recorded.old.session recorded.new.session }
+    ensures { Takes R.contents (InTurn (Fills (files_of S.opens S.gives S.fault_count) seats.now) 32 side.old side.new) recorded.old recorded.new }
 {
     let mut buf = [0; PIECE];
     for k in 0..seats.len() {
@@ -64,7 +64,7 @@ pub(crate) fn fill_seat<A: Allocator + Copy, R: Write, C: Drop, S: SideFiles>(
     buf: &mut [u8],
 )
     requires { length buf.old ≡ 4096 }
-    ensures { Takes (FillsSeat (files_of S.opens S.gives S.fault_count) client seat.now side.old side.new) recorded.old.session recorded.new.session }
+    ensures { Takes R.contents (FillsSeat (files_of S.opens S.gives S.fault_count) client seat.now side.old side.new) recorded.old recorded.new }
 {
     if let Some(seat) = seat {
         if seat.has_sent {
@@ -83,7 +83,7 @@ fn fill_client<A: Allocator + Copy, R: Write, S: SideFiles>(
     buf: &mut [u8],
 )
     requires { length buf.old ≡ 4096 }
-    ensures { Takes (FillsClient (files_of S.opens S.gives S.fault_count) client number side.old side.new) recorded.old.session recorded.new.session }
+    ensures { Takes R.contents (FillsClient (files_of S.opens S.gives S.fault_count) client number side.old side.new) recorded.old recorded.new }
 {
     if opens(list_name(number).as_str(), 0, side) {
         fill_listed(recorded, client, number, side, buf);
@@ -101,7 +101,7 @@ fn fill_stores<A: Allocator + Copy, R: Write, S: SideFiles>(
     buf: &mut [u8],
 )
     requires { length buf.old ≡ 4096 }
-    ensures { Takes (FillsStores (files_of S.opens S.gives S.fault_count) client number side.old side.new) recorded.old.session recorded.new.session }
+    ensures { Takes R.contents (FillsStores (files_of S.opens S.gives S.fault_count) client number side.old side.new) recorded.old recorded.new }
 {
     let mut last = 0;
     while let Some(store) = recorded.next_store(client, last) {
@@ -123,7 +123,7 @@ fn fill_store<A: Allocator + Copy, R: Write, S: SideFiles>(
     buf: &mut [u8],
 )
     requires { length buf.old ≡ 4096 }
-    ensures { Takes (Puts (files_of S.opens S.gives S.fault_count) target.client target.number target.store side.old side.new) recorded.old.session recorded.new.session }
+    ensures { Takes R.contents (Puts (files_of S.opens S.gives S.fault_count) target.client target.number target.store side.old side.new) recorded.old recorded.new }
 {
     if let Some(size) = recorded.store_size(target.client, target.store) {
         fill_part(recorded, target, 0, 0, size, side, buf);
@@ -139,7 +139,7 @@ fn fill_listed<A: Allocator + Copy, R: Write, S: SideFiles>(
     buf: &mut [u8],
 )
     requires { length buf.old ≡ 4096 }
-    ensures { Takes (FillsListed (files_of S.opens S.gives S.fault_count) client number side.old side.new) recorded.old.session recorded.new.session }
+    ensures { Takes R.contents (FillsListed (files_of S.opens S.gives S.fault_count) client number side.old side.new) recorded.old recorded.new }
 {
     let mut text = ArrayVec::new();
     read_text(side, &mut text, buf);
@@ -192,7 +192,7 @@ fn fill_ranges<A: Allocator + Copy, R: Write, S: SideFiles>(
     buf: &mut [u8],
 )
     requires { length buf.old ≡ 4096 }
-    ensures { Takes (PutsRanges (files_of S.opens S.gives S.fault_count) client number (ranges_of text.now) side.old side.new) recorded.old.session recorded.new.session }
+    ensures { Takes R.contents (PutsRanges (files_of S.opens S.gives S.fault_count) client number (ranges_of text.now) side.old side.new) recorded.old recorded.new }
 {
     let mut text = text;
     let mut before = None;
@@ -217,7 +217,7 @@ fn fill_range<A: Allocator + Copy, R: Write, S: SideFiles>(
     buf: &mut [u8],
 )
     requires { length buf.old ≡ 4096 }
-    ensures { Takes (PutsRange (files_of S.opens S.gives S.fault_count) client number range side.old side.new) recorded.old.session recorded.new.session }
+    ensures { Takes R.contents (PutsRange (files_of S.opens S.gives S.fault_count) client number range side.old side.new) recorded.old recorded.new }
 {
     let target = Target {
         client,
@@ -243,7 +243,7 @@ fn fill_part<A: Allocator + Copy, R: Write, S: SideFiles>(
 )
     requires buf { length buf.old ≡ 4096 }
     requires room { at + most < 2 ^ 32 }
-    ensures { Takes (PutsPart (files_of S.opens S.gives S.fault_count) target.client target.number target.store from at most side.old side.new) recorded.old.session recorded.new.session }
+    ensures { Takes R.contents (PutsPart (files_of S.opens S.gives S.fault_count) target.client target.number target.store from at most side.old side.new) recorded.old recorded.new }
 {
     if opens(side_name(target.number, target.store).as_str(), from, side) {
         put_file(recorded, target, at, most, side, buf);
@@ -303,7 +303,7 @@ fn put_file<A: Allocator + Copy, R: Write, S: SideFiles>(
 )
     requires buf { length buf.old ≡ 4096 }
     requires room { at + most < 2 ^ 32 }
-    ensures { Takes (PutsFile (files_of S.opens S.gives S.fault_count) target.client target.store at most side.old side.new) recorded.old.session recorded.new.session }
+    ensures { Takes R.contents (PutsFile (files_of S.opens S.gives S.fault_count) target.client target.store at most side.old side.new) recorded.old recorded.new }
 {
     let mut done = 0;
     while done < most {
@@ -326,7 +326,7 @@ fn put_piece<A: Allocator + Copy, R: Write, S: SideFiles>(
     buf: &mut [u8],
 ) -> u32
     requires { length buf.old ≤ PIECE }
-    ensures put { Takes (PutsOnce (files_of S.opens S.gives S.fault_count) target.client target.store at result side.old side.new) recorded.old.session recorded.new.session }
+    ensures put { Takes R.contents (PutsOnce (files_of S.opens S.gives S.fault_count) target.client target.store at result side.old side.new) recorded.old recorded.new }
     ensures within { result ≤ length buf.old }
 {
     match side.read(buf) {

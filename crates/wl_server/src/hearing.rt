@@ -29,8 +29,8 @@ pub(crate) fn hear<A: Allocator + Copy, R: Write, V: Hub>(
     recorded: &mut Recorded<A, R>,
     time: u32,
 ) -> bool
-    ensures heard { Takes (Hears (ways V.accepts V.reads V.writes V.closes V.fault_count) time viewing.old.width viewing.old.height result
-        (viewing.old.hub, viewing.old.watcher) (viewing.new.hub, viewing.new.watcher)) recorded.old.session recorded.new.session }
+    ensures heard { Takes R.contents (Hears (ways V.accepts V.reads V.writes V.closes V.fault_count) time viewing.old.width viewing.old.height result
+        (viewing.old.hub, viewing.old.watcher) (viewing.new.hub, viewing.new.watcher)) recorded.old recorded.new }
     ensures width { viewing.new.width ≡ viewing.old.width }
     ensures height { viewing.new.height ≡ viewing.old.height }
 {
@@ -54,7 +54,7 @@ fn attend_new<A: Allocator + Copy, R: Write, V: Hub>(
     recorded: &mut Recorded<A, R>,
     time: u32,
 )
-    ensures { Takes (AttendsIf is_new (ways V.accepts V.reads V.writes V.closes V.fault_count) time (hub.old, place.old) (hub.new, place.new)) recorded.old.session recorded.new.session }
+    ensures { Takes R.contents (AttendsIf is_new (ways V.accepts V.reads V.writes V.closes V.fault_count) time (hub.old, place.old) (hub.new, place.new)) recorded.old recorded.new }
 {
     if !is_new {
         return;
@@ -69,7 +69,7 @@ fn attend<A: Allocator + Copy, R: Write, V: Hub>(
     recorded: &mut Recorded<A, R>,
     time: u32,
 )
-    ensures { Takes (Attends (ways V.accepts V.reads V.writes V.closes V.fault_count) time (hub.old, place.old) (hub.new, place.new)) recorded.old.session recorded.new.session }
+    ensures { Takes R.contents (Attends (ways V.accepts V.reads V.writes V.closes V.fault_count) time (hub.old, place.old) (hub.new, place.new)) recorded.old recorded.new }
 {
     exchange(hub, place, recorded, time);
     dismiss(hub, place, recorded, time);
@@ -82,7 +82,7 @@ fn exchange<A: Allocator + Copy, R: Write, V: Hub>(
     recorded: &mut Recorded<A, R>,
     time: u32,
 )
-    ensures { Takes (IfWatched (Then (Writing (ways V.accepts V.reads V.writes V.closes V.fault_count)) (Reads (ways V.accepts V.reads V.writes V.closes V.fault_count) time)) (hub.old, place.old) (hub.new, place.new)) recorded.old.session recorded.new.session }
+    ensures { Takes R.contents (IfWatched (Then (Writing (ways V.accepts V.reads V.writes V.closes V.fault_count)) (Reads (ways V.accepts V.reads V.writes V.closes V.fault_count) time)) (hub.old, place.old) (hub.new, place.new)) recorded.old recorded.new }
 {
     if let Some(watcher) = place {
         write_watcher(hub, watcher);
@@ -145,7 +145,7 @@ fn read_watcher<A: Allocator + Copy, R: Write, V: Hub>(
     recorded: &mut Recorded<A, R>,
     time: u32,
 )
-    ensures { Takes (Reads (ways V.accepts V.reads V.writes V.closes V.fault_count) time (hub.old, watcher.old) (hub.new, watcher.new)) recorded.old.session recorded.new.session }
+    ensures { Takes R.contents (Reads (ways V.accepts V.reads V.writes V.closes V.fault_count) time (hub.old, watcher.old) (hub.new, watcher.new)) recorded.old recorded.new }
 {
     let mut buf = [0; PIECE];
     for before in 0..READS {
@@ -164,7 +164,7 @@ fn read_once<A: Allocator + Copy, R: Write, V: Hub>(
     buf: &mut [u8],
 ) -> bool
     requires { length buf.old ≡ 4096 }
-    ensures { Takes (TakesOnce (ways V.accepts V.reads V.writes V.closes V.fault_count) time result (hub.old, watcher.old) (hub.new, watcher.new)) recorded.old.session recorded.new.session }
+    ensures { Takes R.contents (TakesOnce (ways V.accepts V.reads V.writes V.closes V.fault_count) time result (hub.old, watcher.old) (hub.new, watcher.new)) recorded.old recorded.new }
 {
     if is_left(watcher) {
         return false;
@@ -196,7 +196,7 @@ fn take_bytes<A: Allocator + Copy, R: Write>(
     time: u32,
     bytes: &[u8],
 )
-    ensures taken { Takes (Does (acts_of time (asks viewer.old.heard bytes.now))) recorded.old.session recorded.new.session }
+    ensures taken { Takes R.contents (Does (acts_of time (asks viewer.old.heard bytes.now))) recorded.old recorded.new }
     ensures heard { viewer.new ≡ heard_by bytes.now viewer.old }
 {
     for byte in bytes {
@@ -207,7 +207,7 @@ fn take_bytes<A: Allocator + Copy, R: Write>(
 
 /// Has the pointer do what is asked, at this time, in milliseconds.
 fn act<A: Allocator + Copy, R: Write>(recorded: &mut Recorded<A, R>, asked: Asked, time: u32)
-    ensures { Takes (Does (act_of time asked)) recorded.old.session recorded.new.session }
+    ensures { Takes R.contents (Does (act_of time asked)) recorded.old recorded.new }
 {
     match asked {
         Asked::Motion { x, y } => recorded.motion(time, x, y),
@@ -224,7 +224,7 @@ pub(crate) fn dismiss<A: Allocator + Copy, R: Write, V: Hub>(
     recorded: &mut Recorded<A, R>,
     time: u32,
 )
-    ensures { Takes (Dismisses (ways V.accepts V.reads V.writes V.closes V.fault_count) time (hub.old, place.old) (hub.new, place.new)) recorded.old.session recorded.new.session }
+    ensures { Takes R.contents (Dismisses (ways V.accepts V.reads V.writes V.closes V.fault_count) time (hub.old, place.old) (hub.new, place.new)) recorded.old recorded.new }
 {
     let Some(watcher) = place.take() else {
         return;
@@ -250,7 +250,7 @@ fn release_all<A: Allocator + Copy, R: Write>(
     buttons: &[u32],
     time: u32,
 )
-    ensures { Takes (Does (releases time buttons.now)) recorded.old.session recorded.new.session }
+    ensures { Takes R.contents (Does (releases time buttons.now)) recorded.old recorded.new }
 {
     for code in buttons {
         recorded.button(time, *code, false);

@@ -32,12 +32,12 @@ pub(crate) fn take_in<A: Allocator + Copy, R: Write, H: Hub, S: SideFiles, W: Wr
     connections: &mut Connections<H::Conn>,
     report: &mut W,
 ) -> Result<(), TurnError>
-    ensures told { OnOk result (Reports (TakesIn (ways H.accepts H.reads H.writes H.closes H.fault_count) (files_of S.opens S.gives S.fault_count)
+    ensures told { OnOk result (Reports R.contents (TakesIn (ways H.accepts H.reads H.writes H.closes H.fault_count) (files_of S.opens S.gives S.fault_count)
         (serving service.old.hub connections.old service.old.side service.old.waiting) (serving service.new.hub connections.new service.new.side service.new.waiting))
-        service.old.recorded.session service.new.recorded.session (W.contents report.old) (W.contents report.new)) }
-    ensures begun { OnErr result (Takes (StartsIn (ways H.accepts H.reads H.writes H.closes H.fault_count)
+        service.old.recorded service.new.recorded (W.contents report.old) (W.contents report.new)) }
+    ensures begun { OnErr result (Takes R.contents (StartsIn (ways H.accepts H.reads H.writes H.closes H.fault_count)
         (serving service.old.hub connections.old service.old.side service.old.waiting) (serving service.new.hub connections.new service.new.side service.new.waiting))
-        service.old.recorded.session service.new.recorded.session) }
+        service.old.recorded service.new.recorded) }
     ensures waiting { service.new.waiting ≡ service.old.waiting }
 {
     let hub = &mut service.hub;
@@ -56,9 +56,9 @@ fn read_and_fill<A: Allocator + Copy, R: Write, H: Hub, S: SideFiles>(
     side: &mut S,
 )
     requires { length seats.old ≡ 32 }
-    ensures { (accepted : ℕ) (waiting : List PointerLine) → Takes (Then (ForEach (Reads (ways H.accepts H.reads H.writes H.closes H.fault_count)) 32) (Filling (files_of S.opens S.gives S.fault_count))
+    ensures { (accepted : ℕ) (waiting : List PointerLine) → Takes R.contents (Then (ForEach (Reads (ways H.accepts H.reads H.writes H.closes H.fault_count)) 32) (Filling (files_of S.opens S.gives S.fault_count))
         (serving hub.old (record { accepted = accepted; seats = seats.old }) side.old waiting) (serving hub.new (record { accepted = accepted; seats = seats.new }) side.new waiting))
-        recorded.old.session recorded.new.session }
+        recorded.old recorded.new }
 {
     read_all(hub, recorded, seats);
     fill_all(recorded, seats, side);
@@ -79,12 +79,12 @@ pub(crate) fn take_shared_in<
     connections: &mut Connections<H::Conn>,
     report: &mut W,
 ) -> Result<(), TurnError>
-    ensures told { OnOk result (Reports (SharesIn (ways H.accepts H.reads H.writes H.closes H.fault_count) (files_of S.opens S.gives S.fault_count)
+    ensures told { OnOk result (Reports R.contents (SharesIn (ways H.accepts H.reads H.writes H.closes H.fault_count) (files_of S.opens S.gives S.fault_count)
         (serving service.old.hub connections.old service.old.side service.old.waiting) (serving service.new.hub connections.new service.new.side service.new.waiting))
-        service.old.recorded.session service.new.recorded.session (W.contents report.old) (W.contents report.new)) }
-    ensures begun { OnErr result (Takes (StartsIn (ways H.accepts H.reads H.writes H.closes H.fault_count)
+        service.old.recorded service.new.recorded (W.contents report.old) (W.contents report.new)) }
+    ensures begun { OnErr result (Takes R.contents (StartsIn (ways H.accepts H.reads H.writes H.closes H.fault_count)
         (serving service.old.hub connections.old service.old.side service.old.waiting) (serving service.new.hub connections.new service.new.side service.new.waiting))
-        service.old.recorded.session service.new.recorded.session) }
+        service.old.recorded service.new.recorded) }
     ensures waiting { service.new.waiting ≡ service.old.waiting }
 {
     let hub = &mut service.hub;
@@ -101,12 +101,12 @@ pub(crate) fn give_out<A: Allocator + Copy, R: Write, H: Hub, S: SideFiles, W: W
     connections: &mut Connections<H::Conn>,
     report: &mut W,
 ) -> Result<(), TurnError>
-    ensures told { OnOk result (Reports (FromFrame (ways H.accepts H.reads H.writes H.closes H.fault_count) 32
+    ensures told { OnOk result (Reports R.contents (FromFrame (ways H.accepts H.reads H.writes H.closes H.fault_count) 32
         (serving service.old.hub connections.old service.old.side service.old.waiting) (serving service.new.hub connections.new service.new.side service.new.waiting))
-        service.old.recorded.session service.new.recorded.session (W.contents report.old) (W.contents report.new)) }
-    ensures begun { OnErr result ((n : ℕ) × (n ≤ 32) × Takes (FromFrame (ways H.accepts H.reads H.writes H.closes H.fault_count) n
+        service.old.recorded service.new.recorded (W.contents report.old) (W.contents report.new)) }
+    ensures begun { OnErr result ((n : ℕ) × (n ≤ 32) × Takes R.contents (FromFrame (ways H.accepts H.reads H.writes H.closes H.fault_count) n
         (serving service.old.hub connections.old service.old.side service.old.waiting) (serving service.new.hub connections.new service.new.side service.new.waiting))
-        service.old.recorded.session service.new.recorded.session) }
+        service.old.recorded service.new.recorded) }
     ensures waiting { service.new.waiting ≡ service.old.waiting }
 {
     let hub = &mut service.hub;

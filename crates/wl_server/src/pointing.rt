@@ -17,7 +17,7 @@ pub(crate) fn point_all<A: Allocator + Copy, R: Write>(
     waiting: &mut Waiting<A>,
     time: u32,
 )
-    ensures pointed { Takes (Points (due_at time waiting.old)) recorded.old.session recorded.new.session }
+    ensures pointed { Takes R.contents (Points (due_at time waiting.old)) recorded.old recorded.new }
     ensures left { waiting.new ≡ left_at time waiting.old }
 {
     while let Some(line) = waiting.next_due(time) {
@@ -27,7 +27,7 @@ pub(crate) fn point_all<A: Allocator + Copy, R: Write>(
 
 /// Moves the pointer, or presses or releases a button, as a line says, at the line's own time.
 fn point<A: Allocator + Copy, R: Write>(recorded: &mut Recorded<A, R>, line: PointerLine)
-    ensures { Takes (Points (line ∷ [])) recorded.old.session recorded.new.session }
+    ensures { Takes R.contents (Points (line ∷ [])) recorded.old recorded.new }
 {
     match line {
         PointerLine::Motion { time, x, y } => recorded.motion(time, x, y),

@@ -26,7 +26,7 @@ pub(crate) fn read_all<A: Allocator + Copy, R: Write, H: Hub>(
     seats: &mut [Option<Seat<H::Conn>>],
 )
     requires { length seats.old ≡ 32 }
-    ensures { Takes (InTurn (AtSeat (Reads (ways H.accepts H.reads H.writes H.closes H.fault_count))) 32 (hub.old, seats.old) (hub.new, seats.new)) recorded.old.session recorded.new.session }
+    ensures { Takes R.contents (InTurn (AtSeat (Reads (ways H.accepts H.reads H.writes H.closes H.fault_count))) 32 (hub.old, seats.old) (hub.new, seats.new)) recorded.old recorded.new }
 {
     let mut buf = [0; PIECE];
     for k in 0..seats.len() {
@@ -43,7 +43,7 @@ fn read_seat<A: Allocator + Copy, R: Write, H: Hub>(
     buf: &mut [u8],
 )
     requires { length buf.old ≡ 4096 }
-    ensures { Takes (Reads (ways H.accepts H.reads H.writes H.closes H.fault_count) client (hub.old, seat.old) (hub.new, seat.new)) recorded.old.session recorded.new.session }
+    ensures { Takes R.contents (Reads (ways H.accepts H.reads H.writes H.closes H.fault_count) client (hub.old, seat.old) (hub.new, seat.new)) recorded.old recorded.new }
 {
     if let Some(seat) = seat {
         read_client(hub, recorded, client, seat, buf);
@@ -59,7 +59,7 @@ fn read_client<A: Allocator + Copy, R: Write, H: Hub>(
     buf: &mut [u8],
 )
     requires { length buf.old ≡ 4096 }
-    ensures { Takes (ReadsClient (ways H.accepts H.reads H.writes H.closes H.fault_count) client (hub.old, seat.old) (hub.new, seat.new)) recorded.old.session recorded.new.session }
+    ensures { Takes R.contents (ReadsClient (ways H.accepts H.reads H.writes H.closes H.fault_count) client (hub.old, seat.old) (hub.new, seat.new)) recorded.old recorded.new }
 {
     seat.has_sent = false;
     for before in 0..READS {
@@ -80,7 +80,7 @@ pub(crate) fn read_once<A: Allocator + Copy, R: Write, H: Hub>(
 ) -> bool
     requires some { 0 < length buf.old }
     requires few { length buf.old ≤ 4096 }
-    ensures { Takes (ReadsOnce (ways H.accepts H.reads H.writes H.closes H.fault_count) client result (hub.old, seat.old) (hub.new, seat.new)) recorded.old.session recorded.new.session }
+    ensures { Takes R.contents (ReadsOnce (ways H.accepts H.reads H.writes H.closes H.fault_count) client result (hub.old, seat.old) (hub.new, seat.new)) recorded.old recorded.new }
 {
     match receive(hub, &mut seat.conn, buf) {
         Received::Bytes(count) => {

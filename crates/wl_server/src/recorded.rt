@@ -1,6 +1,6 @@
 //! A session, and the recording of what is asked of it.
 
-ghost use Rattle.std.specs.Prelude.{◌≡◌, ◌<◌, ◌≤◌, ℕ, IfSome, None, OnErr, OnOk, length};
+ghost use Rattle.std.specs.Prelude.{◌≡◌, ◌<◌, ◌≤◌, ℕ, IfSome, None, OnErr, OnOk, Some, false, length, replicate};
 ghost use Rattle.spec_desktop.specs.Act.{Button, Close, Connect, Feed, Leave, Motion, Send, Store, peer_at, store_size_of};
 ghost use Rattle.spec_desktop.specs.declared.answers.Done.{Done};
 ghost use Rattle.wl_session.specs.Course.{TakesCourse};
@@ -42,7 +42,7 @@ impl<A: Allocator, R: Write> Model for Recorded<A, R> {
 impl<A: Allocator + Copy, R: Write> Recorded<A, R> {
     ghost use Rattle.spec_desktop.specs.Desktop.{Desktop, empty};
     ghost use Rattle.wl_server.specs.Agreeing.{Agrees};
-    ghost use Rattle.wl_server.specs.Recorded.{IsAllRecorded, IsRecorded};
+    ghost use Rattle.wl_server.specs.Recorded.{IsAllRecorded, IsNoted, IsRecorded, Looks, OnBoth};
 
     /// A session that isn't recorded. It takes no memory.
     pub fn without(session: Session<A>) -> Recorded<A, R>
@@ -58,6 +58,7 @@ impl<A: Allocator + Copy, R: Write> Recorded<A, R> {
     pub fn new(alloc: A, session: Session<A>, writer: R) -> Recorded<A, R>
         requires { (width : ℕ) × (height : ℕ) × Agrees session.desk (empty (record { width = width; height = height })) }
         ensures session { result.session ≡ session }
+        ensures recording { result.recording ≡ Some (record { written = record { writer = writer; lines = 0 }; clients = replicate 32 None; has_failed = false }) }
     {
         Recorded {
             session,
@@ -91,6 +92,7 @@ impl<A: Allocator + Copy, R: Write> Recorded<A, R> {
     /// A client connects.
     pub(crate) fn connect(&mut self) -> Result<ClientNo, ConnectError>
         ensures course { TakesCourse Connect (Done.Connect result) self.old.session self.new.session }
+        ensures noted { IsNoted R.contents Connect (Done.Connect result) self.old self.new }
         ensures unchanged { OnErr result (self.new.session ≡ self.old.session) }
         ensures frame { self.new.session.frame ≡ self.old.session.frame }
     {
@@ -103,6 +105,7 @@ impl<A: Allocator + Copy, R: Write> Recorded<A, R> {
     /// A piece of a client's stream comes.
     pub(crate) fn feed(&mut self, client: ClientNo, piece: &[u8]) -> Fed
         ensures course { TakesCourse (Feed client piece.now) (Done.Feed result) self.old.session self.new.session }
+        ensures noted { IsNoted R.contents (Feed client piece.now) (Done.Feed result) self.old self.new }
         ensures frame { self.new.session.frame ≡ self.old.session.frame }
     {
         settle(&mut self.recording, &self.session);
@@ -120,6 +123,7 @@ impl<A: Allocator + Copy, R: Write> Recorded<A, R> {
     ) -> Stored
         requires { length bytes.now ≤ 4096 }
         ensures course { TakesCourse (Store client store at bytes.now) (Done.Store result) self.old.session self.new.session }
+        ensures noted { IsNoted R.contents (Store client store at bytes.now) (Done.Store result) self.old self.new }
         ensures frame { self.new.session.frame ≡ self.old.session.frame }
     {
         settle(&mut self.recording, &self.session);
@@ -133,6 +137,7 @@ impl<A: Allocator + Copy, R: Write> Recorded<A, R> {
     /// A client goes.
     pub(crate) fn gone(&mut self, client: ClientNo) -> bool
         ensures course { TakesCourse (Leave client) (Done.Gone result) self.old.session self.new.session }
+        ensures noted { IsNoted R.contents (Leave client) (Done.Gone result) self.old self.new }
         ensures frame { self.new.session.frame ≡ self.old.session.frame }
     {
         settle(&mut self.recording, &self.session);
@@ -143,6 +148,7 @@ impl<A: Allocator + Copy, R: Write> Recorded<A, R> {
     /// So many of a client's unsent bytes were sent. A replay sends all at once.
     pub(crate) fn sent(&mut self, client: ClientNo, count: usize) -> bool
         ensures course { TakesCourse (Send client count) (Done.Sent result) self.old.session self.new.session }
+        ensures noted { IsNoted R.contents (Send client count) (Done.Sent result) self.old self.new }
         ensures frame { self.new.session.frame ≡ self.old.session.frame }
     {
         settle(&mut self.recording, &self.session);
@@ -152,6 +158,7 @@ impl<A: Allocator + Copy, R: Write> Recorded<A, R> {
     /// The number of a client that ended is free.
     pub(crate) fn close(&mut self, client: ClientNo) -> bool
         ensures course { TakesCourse (Close client) (Done.Close result) self.old.session self.new.session }
+        ensures noted { IsNoted R.contents (Close client) (Done.Close result) self.old self.new }
         ensures frame { self.new.session.frame ≡ self.old.session.frame }
     {
         settle(&mut self.recording, &self.session);
@@ -161,6 +168,7 @@ impl<A: Allocator + Copy, R: Write> Recorded<A, R> {
     /// The pointer goes to a point of the output, at a time in milliseconds.
     pub(crate) fn motion(&mut self, time: u32, x: i32, y: i32)
         ensures course { TakesCourse (Motion time x y) Done.Motion self.old.session self.new.session }
+        ensures noted { IsNoted R.contents (Motion time x y) Done.Motion self.old self.new }
         ensures frame { self.new.session.frame ≡ self.old.session.frame }
     {
         settle(&mut self.recording, &self.session);
@@ -171,6 +179,7 @@ impl<A: Allocator + Copy, R: Write> Recorded<A, R> {
     /// A button of the pointer is pressed or released, at a time in milliseconds.
     pub(crate) fn button(&mut self, time: u32, code: u32, pressed: bool)
         ensures course { TakesCourse (Button time code pressed) Done.Button self.old.session self.new.session }
+        ensures noted { IsNoted R.contents (Button time code pressed) Done.Button self.old self.new }
         ensures frame { self.new.session.frame ≡ self.old.session.frame }
     {
         settle(&mut self.recording, &self.session);
@@ -181,6 +190,7 @@ impl<A: Allocator + Copy, R: Write> Recorded<A, R> {
     /// What was written isn't held back any more. `Write` is answered where a write failed.
     pub(crate) fn flush(&mut self) -> Result<(), TurnError>
         ensures kept { self.new.session ≡ self.old.session }
+        ensures noted { OnBoth (Looks R.contents self.old.session) self.old.recording self.new.recording }
         ensures recorded { OnOk result (IsAllRecorded R.contents self.new.session self.new.recording) }
     {
         settle(&mut self.recording, &self.session);

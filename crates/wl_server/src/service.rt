@@ -94,13 +94,13 @@ pub fn turn<A: Allocator + Copy, R: Write, H: Hub, S: SideFiles, W: Write, P: Wr
     report: &mut W,
     ppm: &mut Option<P>,
 ) -> Result<(), TurnError>
-    ensures taken { OnOk result (IsServed (IsTurn (ways H.accepts H.reads H.writes H.closes H.fault_count) (files_of S.opens S.gives S.fault_count) time
+    ensures taken { OnOk result (IsServed R.contents (IsTurn (ways H.accepts H.reads H.writes H.closes H.fault_count) (files_of S.opens S.gives S.fault_count) time
         (serving service.old.hub connections.old service.old.side service.old.waiting) (serving service.new.hub connections.new service.new.side service.new.waiting))
         (IsToldOf (W.contents report.old) (W.contents report.new) (images_in P.contents ppm.old) (images_in P.contents ppm.new))
-        service.old.recorded.session service.new.recorded.session) }
-    ensures begun { IsServed (StartsTurn (ways H.accepts H.reads H.writes H.closes H.fault_count) (files_of S.opens S.gives S.fault_count) time
+        service.old.recorded service.new.recorded) }
+    ensures begun { IsServed R.contents (StartsTurn (ways H.accepts H.reads H.writes H.closes H.fault_count) (files_of S.opens S.gives S.fault_count) time
         (serving service.old.hub connections.old service.old.side service.old.waiting) (serving service.new.hub connections.new service.new.side service.new.waiting))
-        (λ events. ⊤) service.old.recorded.session service.new.recorded.session }
+        (λ events. ⊤) service.old.recorded service.new.recorded }
     ensures waiting { service.new.waiting ≡ left_at time service.old.waiting }
 {
     point_all(&mut service.recorded, &mut service.waiting, time);
@@ -115,13 +115,13 @@ fn take_phases<A: Allocator + Copy, R: Write, H: Hub, S: SideFiles, W: Write, P:
     report: &mut W,
     ppm: &mut Option<P>,
 ) -> Result<(), TurnError>
-    ensures taken { OnOk result (Tells (Serves (TakesIn (ways H.accepts H.reads H.writes H.closes H.fault_count) (files_of S.opens S.gives S.fault_count)) (ways H.accepts H.reads H.writes H.closes H.fault_count) time 32
+    ensures taken { OnOk result (Tells R.contents (Serves (TakesIn (ways H.accepts H.reads H.writes H.closes H.fault_count) (files_of S.opens S.gives S.fault_count)) (ways H.accepts H.reads H.writes H.closes H.fault_count) time 32
         (serving service.old.hub connections.old service.old.side service.old.waiting) (serving service.new.hub connections.new service.new.side service.new.waiting))
-        service.old.recorded.session service.new.recorded.session (W.contents report.old) (W.contents report.new)
+        service.old.recorded service.new.recorded (W.contents report.old) (W.contents report.new)
         (images_in P.contents ppm.old) (images_in P.contents ppm.new)) }
-    ensures begun { Takes (StartsServing (TakesIn (ways H.accepts H.reads H.writes H.closes H.fault_count) (files_of S.opens S.gives S.fault_count)) (ways H.accepts H.reads H.writes H.closes H.fault_count) time
+    ensures begun { Takes R.contents (StartsServing (TakesIn (ways H.accepts H.reads H.writes H.closes H.fault_count) (files_of S.opens S.gives S.fault_count)) (ways H.accepts H.reads H.writes H.closes H.fault_count) time
         (serving service.old.hub connections.old service.old.side service.old.waiting) (serving service.new.hub connections.new service.new.side service.new.waiting))
-        service.old.recorded.session service.new.recorded.session }
+        service.old.recorded service.new.recorded }
     ensures waiting { service.new.waiting ≡ service.old.waiting }
 {
     take_in(service, connections, report)?;
@@ -153,11 +153,11 @@ pub fn turn_viewed<A: Allocator + Copy, R: Write, H: Hub, S: SideFiles, V: Hub, 
     report: &mut W,
     ppm: &mut Option<P>,
 ) -> Result<(), TurnError>
-    ensures taken { OnOk result (IsServed (IsViewedTurn (ways H.accepts H.reads H.writes H.closes H.fault_count) (ways V.accepts V.reads V.writes V.closes V.fault_count) (files_of S.opens S.gives S.fault_count) time viewing.old.width viewing.old.height
+    ensures taken { OnOk result (IsServed R.contents (IsViewedTurn (ways H.accepts H.reads H.writes H.closes H.fault_count) (ways V.accepts V.reads V.writes V.closes V.fault_count) (files_of S.opens S.gives S.fault_count) time viewing.old.width viewing.old.height
         (serving service.old.hub connections.old service.old.side service.old.waiting, (viewing.old.hub, viewing.old.watcher))
         (serving service.new.hub connections.new service.new.side service.new.waiting, (viewing.new.hub, viewing.new.watcher)))
         (IsToldOf (W.contents report.old) (W.contents report.new) (images_in P.contents ppm.old) (images_in P.contents ppm.new))
-        service.old.recorded.session service.new.recorded.session) }
+        service.old.recorded service.new.recorded) }
     ensures waiting { service.new.waiting ≡ left_at time service.old.waiting }
     ensures width { viewing.new.width ≡ viewing.old.width }
     ensures height { viewing.new.height ≡ viewing.old.height }
@@ -192,10 +192,10 @@ fn take_viewed_phases<
     report: &mut W,
     ppm: &mut Option<P>,
 ) -> Result<(), TurnError>
-    ensures taken { OnOk result ((update : Option Update) × Tells (ServesViewed (TakesIn (ways H.accepts H.reads H.writes H.closes H.fault_count) (files_of S.opens S.gives S.fault_count)) (ways H.accepts H.reads H.writes H.closes H.fault_count) time 32 update
+    ensures taken { OnOk result ((update : Option Update) × Tells R.contents (ServesViewed (TakesIn (ways H.accepts H.reads H.writes H.closes H.fault_count) (files_of S.opens S.gives S.fault_count)) (ways H.accepts H.reads H.writes H.closes H.fault_count) time 32 update
         (serving service.old.hub connections.old service.old.side service.old.waiting, (viewing.old.hub, viewing.old.watcher))
         (serving service.new.hub connections.new service.new.side service.new.waiting, (viewing.new.hub, viewing.new.watcher)))
-        service.old.recorded.session service.new.recorded.session (W.contents report.old) (W.contents report.new)
+        service.old.recorded service.new.recorded (W.contents report.old) (W.contents report.new)
         (images_in P.contents ppm.old) (images_in P.contents ppm.new)) }
     ensures waiting { service.new.waiting ≡ service.old.waiting }
     ensures width { viewing.new.width ≡ viewing.old.width }

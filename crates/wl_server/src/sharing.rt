@@ -149,8 +149,8 @@ pub(crate) fn share_all<A: Allocator + Copy, R: Write, H: Hub, S: SideFiles, K: 
     side: &mut S,
 )
     requires { length seats.old ≡ 32 }
-    ensures { (paid : ℕ) × (LEAST_PAID ≤ paid) × Takes (InTurn (AtSeat (SharesSeat (ways H.accepts H.reads H.writes H.closes H.fault_count) (files_of S.opens S.gives S.fault_count) paid)) 32
-        ((hub.old, side.old), seats.old) ((hub.new, side.new), seats.new)) recorded.old.session recorded.new.session }
+    ensures { (paid : ℕ) × (LEAST_PAID ≤ paid) × Takes R.contents (InTurn (AtSeat (SharesSeat (ways H.accepts H.reads H.writes H.closes H.fault_count) (files_of S.opens S.gives S.fault_count) paid)) 32
+        ((hub.old, side.old), seats.old) ((hub.new, side.new), seats.new)) recorded.old recorded.new }
 {
     let share = shares.share(count_of(seats));
     share_each(share, hub, recorded, seats, side);
@@ -165,8 +165,8 @@ fn share_each<A: Allocator + Copy, R: Write, H: Hub, S: SideFiles, K: Clock>(
     side: &mut S,
 )
     requires { length seats.old ≡ 32 }
-    ensures { Takes (InTurn (AtSeat (SharesSeat (ways H.accepts H.reads H.writes H.closes H.fault_count) (files_of S.opens S.gives S.fault_count) share.entry.paid)) 32
-        ((hub.old, side.old), seats.old) ((hub.new, side.new), seats.new)) recorded.old.session recorded.new.session }
+    ensures { Takes R.contents (InTurn (AtSeat (SharesSeat (ways H.accepts H.reads H.writes H.closes H.fault_count) (files_of S.opens S.gives S.fault_count) share.entry.paid)) 32
+        ((hub.old, side.old), seats.old) ((hub.new, side.new), seats.new)) recorded.old recorded.new }
 {
     let mut buf = [0; PIECE];
     for k in 0..seats.len() {
@@ -193,8 +193,8 @@ fn share_seat<A: Allocator + Copy, R: Write, H: Hub, S: SideFiles, K: Clock>(
     buf: &mut [u8],
 )
     requires { length buf.old ≡ 4096 }
-    ensures { Takes (SharesSeat (ways H.accepts H.reads H.writes H.closes H.fault_count) (files_of S.opens S.gives S.fault_count) share.entry.paid client
-        ((hub.old, side.old), seat.old) ((hub.new, side.new), seat.new)) recorded.old.session recorded.new.session }
+    ensures { Takes R.contents (SharesSeat (ways H.accepts H.reads H.writes H.closes H.fault_count) (files_of S.opens S.gives S.fault_count) share.entry.paid client
+        ((hub.old, side.old), seat.old) ((hub.new, side.new), seat.new)) recorded.old recorded.new }
 {
     let begun = share.now();
     let piece = read_seat(share, begun, hub, recorded, client, seat, buf);
@@ -228,7 +228,7 @@ fn read_seat<A: Allocator + Copy, R: Write, H: Hub, K: Clock>(
     buf: &mut [u8],
 ) -> usize
     requires { length buf.old ≡ 4096 }
-    ensures { Takes (ReadsShared (ways H.accepts H.reads H.writes H.closes H.fault_count) share.entry.paid client (hub.old, seat.old) (hub.new, seat.new)) recorded.old.session recorded.new.session }
+    ensures { Takes R.contents (ReadsShared (ways H.accepts H.reads H.writes H.closes H.fault_count) share.entry.paid client (hub.old, seat.old) (hub.new, seat.new)) recorded.old recorded.new }
 {
     match seat {
         Some(seat) => read_owing(share, begun, hub, recorded, client, seat, buf),
@@ -247,7 +247,7 @@ fn read_owing<A: Allocator + Copy, R: Write, H: Hub, K: Clock>(
     buf: &mut [u8],
 ) -> usize
     requires { length buf.old ≡ 4096 }
-    ensures { Takes (ReadsShare (ways H.accepts H.reads H.writes H.closes H.fault_count) share.entry.paid client (hub.old, seat.old) (hub.new, seat.new)) recorded.old.session recorded.new.session }
+    ensures { Takes R.contents (ReadsShare (ways H.accepts H.reads H.writes H.closes H.fault_count) share.entry.paid client (hub.old, seat.old) (hub.new, seat.new)) recorded.old recorded.new }
 {
     if owes(seat, share.paid) {
         seat.has_sent = false;
@@ -277,7 +277,7 @@ fn read_client<A: Allocator + Copy, R: Write, H: Hub, K: Clock>(
     buf: &mut [u8],
 ) -> usize
     requires { length buf.old ≡ 4096 }
-    ensures { Takes (ReadsUntil IsShareOver (ways H.accepts H.reads H.writes H.closes H.fault_count) client (hub.old, seat.old) (hub.new, seat.new)) recorded.old.session recorded.new.session }
+    ensures { Takes R.contents (ReadsUntil IsShareOver (ways H.accepts H.reads H.writes H.closes H.fault_count) client (hub.old, seat.old) (hub.new, seat.new)) recorded.old recorded.new }
 {
     seat.has_sent = false;
     let most = share.most();

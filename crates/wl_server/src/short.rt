@@ -37,12 +37,12 @@ pub fn short_turn<A: Allocator + Copy, R: Write, H: Hub, S: SideFiles, K: Clock,
     connections: &mut Connections<H::Conn>,
     report: &mut W,
 ) -> Result<bool, TurnError>
-    ensures taken { OnOk result ((images : Option (List ℕ)) → IsServed (IsShortTurn (ways H.accepts H.reads H.writes H.closes H.fault_count) (files_of S.opens S.gives S.fault_count)
+    ensures taken { OnOk result ((images : Option (List ℕ)) → IsServed R.contents (IsShortTurn (ways H.accepts H.reads H.writes H.closes H.fault_count) (files_of S.opens S.gives S.fault_count)
         (serving service.old.hub connections.old service.old.side service.old.waiting) (serving service.new.hub connections.new service.new.side service.new.waiting))
-        (IsToldOf (W.contents report.old) (W.contents report.new) images images) service.old.recorded.session service.new.recorded.session) }
-    ensures begun { IsServed (StartsShortTurn (ways H.accepts H.reads H.writes H.closes H.fault_count) (files_of S.opens S.gives S.fault_count)
+        (IsToldOf (W.contents report.old) (W.contents report.new) images images) service.old.recorded service.new.recorded) }
+    ensures begun { IsServed R.contents (StartsShortTurn (ways H.accepts H.reads H.writes H.closes H.fault_count) (files_of S.opens S.gives S.fault_count)
         (serving service.old.hub connections.old service.old.side service.old.waiting) (serving service.new.hub connections.new service.new.side service.new.waiting))
-        (λ events. ⊤) service.old.recorded.session service.new.recorded.session }
+        (λ events. ⊤) service.old.recorded service.new.recorded }
     ensures waiting { service.new.waiting ≡ service.old.waiting }
 {
     serve_between(shares, service, connections, report)
@@ -73,10 +73,10 @@ pub fn short_turn_viewed<
     time: u32,
     report: &mut W,
 ) -> Result<bool, TurnError>
-    ensures taken { OnOk result ((images : Option (List ℕ)) → IsServed (IsShortViewedTurn (ways H.accepts H.reads H.writes H.closes H.fault_count) (ways V.accepts V.reads V.writes V.closes V.fault_count) (files_of S.opens S.gives S.fault_count) time viewing.old.width viewing.old.height
+    ensures taken { OnOk result ((images : Option (List ℕ)) → IsServed R.contents (IsShortViewedTurn (ways H.accepts H.reads H.writes H.closes H.fault_count) (ways V.accepts V.reads V.writes V.closes V.fault_count) (files_of S.opens S.gives S.fault_count) time viewing.old.width viewing.old.height
         (serving service.old.hub connections.old service.old.side service.old.waiting, (viewing.old.hub, viewing.old.watcher))
         (serving service.new.hub connections.new service.new.side service.new.waiting, (viewing.new.hub, viewing.new.watcher)))
-        (IsToldOf (W.contents report.old) (W.contents report.new) images images) service.old.recorded.session service.new.recorded.session) }
+        (IsToldOf (W.contents report.old) (W.contents report.new) images images) service.old.recorded service.new.recorded) }
     ensures waiting { service.new.waiting ≡ service.old.waiting }
     ensures width { viewing.new.width ≡ viewing.old.width }
     ensures height { viewing.new.height ≡ viewing.old.height }
@@ -102,12 +102,12 @@ fn serve_between<A: Allocator + Copy, R: Write, H: Hub, S: SideFiles, K: Clock, 
     connections: &mut Connections<H::Conn>,
     report: &mut W,
 ) -> Result<bool, TurnError>
-    ensures told { OnOk result (Reports (ServesBetween (SharesIn (ways H.accepts H.reads H.writes H.closes H.fault_count) (files_of S.opens S.gives S.fault_count)) (ways H.accepts H.reads H.writes H.closes H.fault_count) 32
+    ensures told { OnOk result (Reports R.contents (ServesBetween (SharesIn (ways H.accepts H.reads H.writes H.closes H.fault_count) (files_of S.opens S.gives S.fault_count)) (ways H.accepts H.reads H.writes H.closes H.fault_count) 32
         (serving service.old.hub connections.old service.old.side service.old.waiting) (serving service.new.hub connections.new service.new.side service.new.waiting))
-        service.old.recorded.session service.new.recorded.session (W.contents report.old) (W.contents report.new)) }
-    ensures begun { Takes (StartsBetween (SharesIn (ways H.accepts H.reads H.writes H.closes H.fault_count) (files_of S.opens S.gives S.fault_count)) (ways H.accepts H.reads H.writes H.closes H.fault_count)
+        service.old.recorded service.new.recorded (W.contents report.old) (W.contents report.new)) }
+    ensures begun { Takes R.contents (StartsBetween (SharesIn (ways H.accepts H.reads H.writes H.closes H.fault_count) (files_of S.opens S.gives S.fault_count)) (ways H.accepts H.reads H.writes H.closes H.fault_count)
         (serving service.old.hub connections.old service.old.side service.old.waiting) (serving service.new.hub connections.new service.new.side service.new.waiting))
-        service.old.recorded.session service.new.recorded.session }
+        service.old.recorded service.new.recorded }
     ensures waiting { service.new.waiting ≡ service.old.waiting }
 {
     let accepted = connections.count();

@@ -10,7 +10,7 @@ ghost use Rattle.wl_server.specs.Acting.{Takes};
 ghost use Rattle.wl_server.specs.Phases.{Shows};
 ghost use Rattle.wl_recording.specs.Images.{images_in};
 ghost use Rattle.wl_server.specs.Recorded.{IsAllRecorded};
-ghost use Rattle.wl_server.specs.Telling.{Tells};
+ghost use Rattle.wl_server.specs.Telling.{Tells, TellsFrame};
 
 use crate::error::{TurnError, write_failed};
 use crate::noting::{note_tick, settle};
@@ -28,8 +28,8 @@ pub(crate) fn show<A: Allocator + Copy, R: Write, W: Write, P: Write>(
     report: &mut W,
     ppm: &mut Option<P>,
 ) -> Result<(), TurnError>
-    ensures taken { Takes (Shows time) recorded.old.session recorded.new.session }
-    ensures told { OnOk result (Tells (Shows time) recorded.old.session recorded.new.session (W.contents report.old) (W.contents report.new)
+    ensures taken { Takes R.contents (Shows time) recorded.old recorded.new }
+    ensures told { OnOk result (Tells R.contents (Shows time) recorded.old recorded.new (W.contents report.old) (W.contents report.new)
         (images_in P.contents ppm.old) (images_in P.contents ppm.new)) }
     ensures recorded { OnOk result (IsAllRecorded R.contents recorded.new.session recorded.new.recording) }
 {
@@ -46,9 +46,8 @@ fn show_frame<A: Allocator + Copy, W: Write, P: Write>(
     report: &mut W,
     ppm: &mut Option<P>,
 ) -> Result<(), TurnError>
-    ensures taken { Takes (Shows time) session.old session.new }
     ensures course { TakesCourse (Tick time) Done.Tick session.old session.new }
-    ensures told { OnOk result (Tells (Shows time) session.old session.new (W.contents report.old) (W.contents report.new)
+    ensures told { OnOk result (TellsFrame time session.old session.new (W.contents report.old) (W.contents report.new)
         (images_in P.contents ppm.old) (images_in P.contents ppm.new)) }
 {
     let frame = session.tick(time);

@@ -7,7 +7,7 @@ ghost use Rattle.spec_desktop.specs.declared.answers.Done.{Done};
 ghost use Rattle.wl_recording.specs.Images.{images_in};
 ghost use Rattle.wl_server.specs.Acting.{Takes, Then};
 ghost use Rattle.wl_server.specs.Recorded.{IsAllRecorded};
-ghost use Rattle.wl_server.specs.Telling.{Tells};
+ghost use Rattle.wl_server.specs.Telling.{Tells, TellsFrame};
 ghost use Rattle.wl_server.specs.Watching.{Answers, IfWatched, Refreshes, RefreshesPlace, Shows, TellsOf, Answering, Writing, Writes, answers, lines_of, windows_text};
 ghost use Rattle.wl_server.specs.Ways.{ways};
 ghost use Rattle.wl_session.specs.Agreeing.{Agrees};
@@ -37,7 +37,7 @@ pub(crate) fn show_viewed<A: Allocator + Copy, R: Write, C: Drop, W: Write, P: W
     report: &mut W,
     ppm: &mut Option<P>,
 ) -> Result<(), TurnError>
-    ensures told { OnOk result ((update : Option Update) × Tells (Shows time update place.old place.new) recorded.old.session recorded.new.session
+    ensures told { OnOk result ((update : Option Update) × Tells R.contents (Shows time update place.old place.new) recorded.old recorded.new
         (W.contents report.old) (W.contents report.new) (images_in P.contents ppm.old) (images_in P.contents ppm.new)) }
     ensures recorded { OnOk result (IsAllRecorded R.contents recorded.new.session recorded.new.recording) }
 {
@@ -57,8 +57,8 @@ fn show_viewed_frame<A: Allocator + Copy, C: Drop, W: Write, P: Write>(
     ppm: &mut Option<P>,
 ) -> Result<(), TurnError>
     ensures course { TakesCourse (Tick time) Done.Tick session.old session.new }
-    ensures told { OnOk result ((update : Option Update) × Tells (Shows time update place.old place.new) session.old session.new
-        (W.contents report.old) (W.contents report.new) (images_in P.contents ppm.old) (images_in P.contents ppm.new)) }
+    ensures told { OnOk result ((update : Option Update) × RefreshesPlace session.old.damage session.new.frame time update place.old place.new
+        × TellsFrame time session.old session.new (W.contents report.old) (W.contents report.new) (images_in P.contents ppm.old) (images_in P.contents ppm.new)) }
 {
     let frame = session.tick(time);
     refresh(place, frame.damage, frame.pixels, time);
@@ -124,23 +124,23 @@ pub(crate) fn tell<A: Allocator + Copy, R: Write, V: Hub>(
     recorded: &mut Recorded<A, R>,
     time: u32,
 )
-    ensures { Takes (TellsOf (ways V.accepts V.reads V.writes V.closes V.fault_count) time (hub.old, place.old) (hub.new, place.new)) recorded.old.session recorded.new.session }
+    ensures { Takes R.contents (TellsOf (ways V.accepts V.reads V.writes V.closes V.fault_count) time (hub.old, place.old) (hub.new, place.new)) recorded.old recorded.new }
 {
-    reply(hub, place, &recorded.session, time);
+    reply(hub, place, recorded, time);
     dismiss(hub, place, recorded, time);
 }
 
 /// Answers the viewer what is due, and writes to it, if there is one.
-fn reply<A: Allocator + Copy, V: Hub>(
+fn reply<A: Allocator + Copy, R: Write, V: Hub>(
     hub: &mut V,
     place: &mut Option<Watcher<A, V::Conn>>,
-    session: &Session<A>,
+    recorded: &Recorded<A, R>,
     time: u32,
 )
-    ensures { Takes (IfWatched (Then (Answering time) (Writing (ways V.accepts V.reads V.writes V.closes V.fault_count))) (hub.old, place.old) (hub.new, place.new)) session.now session.now }
+    ensures { Takes R.contents (IfWatched (Then (Answering time) (Writing (ways V.accepts V.reads V.writes V.closes V.fault_count))) (hub.old, place.old) (hub.new, place.new)) recorded.now recorded.now }
 {
     if let Some(watcher) = place {
-        answer(watcher, session, time);
+        answer(watcher, &recorded.session, time);
         write_watcher(hub, watcher);
     }
 }

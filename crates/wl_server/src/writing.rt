@@ -20,7 +20,7 @@ pub(crate) fn write_all<A: Allocator + Copy, R: Write, H: Hub>(
     seats: &mut [Option<Seat<H::Conn>>],
 )
     requires { length seats.old ≡ 32 }
-    ensures { Takes (InTurn (AtSeat (Writes (ways H.accepts H.reads H.writes H.closes H.fault_count))) 32 (hub.old, seats.old) (hub.new, seats.new)) recorded.old.session recorded.new.session }
+    ensures { Takes R.contents (InTurn (AtSeat (Writes (ways H.accepts H.reads H.writes H.closes H.fault_count))) 32 (hub.old, seats.old) (hub.new, seats.new)) recorded.old recorded.new }
 {
     for k in 0..seats.len() {
         write_seat(hub, recorded, k as u32 + 1, &mut seats[k]);
@@ -34,7 +34,7 @@ fn write_seat<A: Allocator + Copy, R: Write, H: Hub>(
     client: ClientNo,
     seat: &mut Option<Seat<H::Conn>>,
 )
-    ensures { Takes (Writes (ways H.accepts H.reads H.writes H.closes H.fault_count) client (hub.old, seat.old) (hub.new, seat.new)) recorded.old.session recorded.new.session }
+    ensures { Takes R.contents (Writes (ways H.accepts H.reads H.writes H.closes H.fault_count) client (hub.old, seat.old) (hub.new, seat.new)) recorded.old recorded.new }
 {
     if let Some(seat) = seat {
         write_client(hub, recorded, client, seat);
@@ -48,7 +48,7 @@ fn write_client<A: Allocator + Copy, R: Write, H: Hub>(
     client: ClientNo,
     seat: &mut Seat<H::Conn>,
 )
-    ensures { Takes (WritesClient (ways H.accepts H.reads H.writes H.closes H.fault_count) client (hub.old, seat.old) (hub.new, seat.new)) recorded.old.session recorded.new.session }
+    ensures { Takes R.contents (WritesClient (ways H.accepts H.reads H.writes H.closes H.fault_count) client (hub.old, seat.old) (hub.new, seat.new)) recorded.old recorded.new }
 {
     let Some(bytes) = recorded.session.out(client) else {
         return;

@@ -9,7 +9,7 @@ use Rattle.wl_program.proofs.serving.serve.Goals as goal
 pub returns-in-None-clause-served : goal.returns-in-None-clause-served
 returns-in-None-clause-served g c =
     unviewed c.serve_on.result c.args.serve _ _ (sym c.in_ok-viewer.ensures.asked ∙ ap is_some c.in-None.is)
-    (turns-ok c.serve_on.result c.args.serve c.in_ok-lines.lines.items _ _ _ _ _ _ _ _ _ _ _ (ap (λ (r : RecordedView _). r.session) c.new-service.ensures.recorded ∙ c.recorded.ensures) c.in_ok-session.ensures.desk c.in_ok-session.ensures.right
+    (turns-ok _ c.serve_on.result c.args.serve c.in_ok-lines.lines.items _ _ _ _ _ _ _ _ _ _ _ (ap (λ (r : RecordedView _). r.session) c.new-service.ensures.recorded ∙ c.recorded.ensures.session) c.in_ok-session.ensures.desk c.in_ok-session.ensures.right
     c.in_ok-session.ensures.first c.in_ok-lines.ensures.unpointed refl refl
     (begun-as c.args.serve _ _ _ _ _ (c.new-service.ensures.hub ∙ c.in_ok-hub.ensures.bound) c.new-connections.ensures
     (c.new-service.ensures.side ∙ c.new-side.ensures) c.new-service.ensures.waiting)
@@ -17,7 +17,7 @@ returns-in-None-clause-served g c =
 
 pub returns-clause-served : goal.returns-clause-served
 returns-clause-served g c =
-    viewed-ok c.serve_viewed.result c.args.serve c.in_ok-lines.lines.items _ _ _ _ _ _ _ _ _ _ _ _ _ (sym c.in_ok-viewer.ensures.asked ∙ ap is_some c.in-Some.is) (ap (λ (r : RecordedView _). r.session) c.new-service.ensures.recorded ∙ c.recorded.ensures)
+    viewed-ok _ c.serve_viewed.result c.args.serve c.in_ok-lines.lines.items _ _ _ _ _ _ _ _ _ _ _ _ _ (sym c.in_ok-viewer.ensures.asked ∙ ap is_some c.in-Some.is) (ap (λ (r : RecordedView _). r.session) c.new-service.ensures.recorded ∙ c.recorded.ensures.session)
     c.in_ok-session.ensures.desk c.in_ok-session.ensures.right c.in_ok-session.ensures.first c.in_ok-lines.ensures.unpointed refl refl c.new-viewing.ensures.width c.new-viewing.ensures.height
     (viewed-as c.args.serve _ c.in_ok-lines.lines.items _ _
     (begun-as c.args.serve _ _ _ _ _ (c.new-service.ensures.hub ∙ c.in_ok-hub.ensures.bound) c.new-connections.ensures

@@ -9,7 +9,7 @@ use Rattle.wl_program.proofs.serving.serve_on.Given as goal
 -- the turns up to this one were taken, and told of
 abbrev pub invariant-loop-before : goal.invariant-loop-before
 invariant-loop-before g l =
-    Tells (InTurn (TurnAt (ways g.H.Hub.accepts g.H.Hub.reads g.H.Hub.writes g.H.Hub.closes g.H.Hub.fault_count) (files_of g.S.SideFiles.opens g.S.SideFiles.gives g.S.SideFiles.fault_count) l.schedule.pace.rate) l.before
+    Tells g.R.Write.contents (InTurn (TurnAt (ways g.H.Hub.accepts g.H.Hub.reads g.H.Hub.writes g.H.Hub.closes g.H.Hub.fault_count) (files_of g.S.SideFiles.opens g.S.SideFiles.gives g.S.SideFiles.fault_count) l.schedule.pace.rate) l.before
     (serving l.fn.service.hub l.fn.connections l.fn.service.side l.fn.service.waiting) (serving l.service.hub l.connections l.service.side l.service.waiting))
-    l.fn.service.recorded.session l.service.recorded.session (g.W.Write.contents l.fn.report) (g.W.Write.contents l.report)
+    l.fn.service.recorded l.service.recorded (g.W.Write.contents l.fn.report) (g.W.Write.contents l.report)
     (images_in g.P.Write.contents l.fn.ppm) (images_in g.P.Write.contents l.ppm)

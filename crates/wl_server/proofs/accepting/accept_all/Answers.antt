@@ -11,7 +11,7 @@ pub loop-before-init : goal.loop-before-init
 loop-before-init g c =
     let w = (ways g.H.Hub.accepts g.H.Hub.reads g.H.Hub.writes g.H.Hub.closes g.H.Hub.fault_count) in
     let from : Line g.row.H.Denot g.row.H-Conn.Denot = (c.args.hub.now, record { accepted = c.args.accepted.now; seats = c.args.seats.now }) in
-    Reports-zero (λ k. Accepts w) from c.args.recorded.now.session (g.W.Write.contents c.args.report.now) (λ d. InTurn-zero (λ k. Accepts w) from (moment d c.args.recorded.now.session))
+    Reports-zero (λ k. Accepts w) from c.args.recorded.now (g.W.Write.contents c.args.report.now) (λ d. InTurn-zero (λ k. Accepts w) from (moment d c.args.recorded.now.session))
 
 pub loop-before-preserved : goal.loop-before-preserved
 loop-before-preserved g c =

@@ -31,7 +31,7 @@ returns-in_err-map_err-in-Ok-clause-taken g c =
     c.sit.ensures ∙ ap (λ s. with_seat c.in-Ok.client (Some s) c.args.seats.now) c.new.ensures in
     on-err c.from_residual.result
     (accept-unsaid (ways g.H.Hub.accepts g.H.Hub.reads g.H.Hub.writes g.H.Hub.closes g.H.Hub.fault_count) c.args.hub.now c.accept.new.self c.in-Ok-Some.conn c.args.accepted.now c.in-Ok.client c.args.seats.now c.sit.new.seats
-    c.args.recorded.now.session c.connect.new.self.session gave seated c.in-Ok.ensures.course)
+    c.args.recorded.now c.connect.new.self gave seated (c.in-Ok.ensures.course, c.in-Ok.ensures.noted))
 
 pub returns-in_ok-map_err-in-Ok-clause-told : goal.returns-in_ok-map_err-in-Ok-clause-told
 returns-in_ok-map_err-in-Ok-clause-told g c =
@@ -43,7 +43,7 @@ returns-in_ok-map_err-in-Ok-clause-told g c =
     let seated : c.sit.new.seats ≡ with_seat c.in-Ok.client (Some (new_seat c.in-Ok-Some.conn (c.args.accepted.now + 1))) c.args.seats.now =
     c.sit.ensures ∙ ap (λ s. with_seat c.in-Ok.client (Some s) c.args.seats.now) c.new.ensures in
     accept-client (ways g.H.Hub.accepts g.H.Hub.reads g.H.Hub.writes g.H.Hub.closes g.H.Hub.fault_count) c.args.hub.now c.accept.new.self c.in-Ok-Some.conn c.args.accepted.now c.in-Ok.client c.args.seats.now c.sit.new.seats
-    c.args.recorded.now.session c.connect.new.self.session _ _ gave seated c.in-Ok.ensures.course wrote
+    c.args.recorded.now c.connect.new.self _ _ gave seated (c.in-Ok.ensures.course, c.in-Ok.ensures.noted) wrote
 
 pub returns-in-Err-Full-clause-told : goal.returns-in-Err-Full-clause-told
 returns-in-Err-Full-clause-told g c =
@@ -52,4 +52,4 @@ returns-in-Err-Full-clause-told g c =
     let gave : Gave (ways g.H.Hub.accepts g.H.Hub.reads g.H.Hub.writes g.H.Hub.closes g.H.Hub.fault_count) c.args.hub.now c.accept.new.self c.in-Ok-Some.conn c.args.accepted.now =
     record { room = omega arith; accepts = got.0; calm = got.1 } in
     accept-full (ways g.H.Hub.accepts g.H.Hub.reads g.H.Hub.writes g.H.Hub.closes g.H.Hub.fault_count) c.args.hub.now c.accept.new.self c.close.new.self c.in-Ok-Some.conn c.args.accepted.now c.in-Err-Full.field-0
-    c.args.seats.now c.args.recorded.now.session c.connect.new.self.session _ gave c.close.ensures.closed c.close.ensures.faults c.in-Err-Full.ensures.course
+    c.args.seats.now c.args.recorded.now c.connect.new.self _ gave c.close.ensures.closed c.close.ensures.faults (c.in-Err-Full.ensures.course, c.in-Err-Full.ensures.noted)

@@ -14,7 +14,7 @@ pub loop-k-init : goal.loop-k-init
 loop-k-init g c =
     let w = (ways g.H.Hub.accepts g.H.Hub.reads g.H.Hub.writes g.H.Hub.closes g.H.Hub.fault_count) in
     let from : g.row.H.Denot × List (Option (Seat g.row.H-Conn.Denot)) = (c.args.hub.now, c.args.seats.now) in
-    Reports-zero (AtSeat (Closes w)) from c.args.recorded.now.session (g.W.Write.contents c.args.report.now) (λ d. InTurn-zero (AtSeat (Closes w)) from (moment d c.args.recorded.now.session))
+    Reports-zero (AtSeat (Closes w)) from c.args.recorded.now (g.W.Write.contents c.args.report.now) (λ d. InTurn-zero (AtSeat (Closes w)) from (moment d c.args.recorded.now.session))
 
 pub loop-k-preserved : goal.loop-k-preserved
 loop-k-preserved g c =
@@ -32,7 +32,7 @@ returns-in_err-close_seat-clause-begun g c =
       c.loop-k.k,
       within,
       close-kept w c.loop-k.k c.args.hub.now c.loop-k.hub c.close_seat.new.hub c.args.seats.now c.loop-k.seats (get_or c.loop-k.seats c.loop-k.k c.index-seats-k.result) c.close_seat.new.seat
-          c.args.recorded.now.session c.loop-k.recorded.session c.close_seat.new.recorded.session _ _
+          c.args.recorded.now c.loop-k.recorded c.close_seat.new.recorded _ _
           (get_or_default c.loop-k.seats c.loop-k.k c.index-seats-k.result None (subst (λ n. c.loop-k.k < n) (sym c.loop-k.auto.seats) c.loop-k-test.true))
           kept.0 kept.1 kept.2 c.loop-k.invariant,
     )

@@ -12,14 +12,14 @@ returns-in-Ok-clause-put g c =
     let some : 0 < length piece = omega (arith, long) in
     let few : length piece ≤ 4096 = omega (arith, long, c.in-Ok.ensures.within, c.requires) in
     put-one (files_of g.S.SideFiles.opens g.S.SideFiles.gives g.S.SideFiles.fault_count) c.args.target.client c.args.target.store c.args.at count piece _ c.args.side.now c.read.new.self
-    c.args.recorded.now.session c.store.new.self.session long (some, few) c.in-Ok.ensures.bytes c.store.ensures.course
+    c.args.recorded.now c.store.new.self long (some, few) c.in-Ok.ensures.bytes (c.store.ensures.course, c.store.ensures.noted)
 
 pub returns-in-Ok-eq0-clause-put : goal.returns-in-Ok-eq0-clause-put
 returns-in-Ok-eq0-clause-put g c =
-    put-end (files_of g.S.SideFiles.opens g.S.SideFiles.gives g.S.SideFiles.fault_count) c.args.target.client c.args.target.store c.args.at c.args.side.now c.read.new.self c.args.recorded.now.session
+    put-end (files_of g.S.SideFiles.opens g.S.SideFiles.gives g.S.SideFiles.fault_count) c.args.target.client c.args.target.store c.args.at c.args.side.now c.read.new.self c.args.recorded.now
     (inl (search rules))
 
 pub returns-in-Ok-eq0-2-clause-put : goal.returns-in-Ok-eq0-2-clause-put
 returns-in-Ok-eq0-2-clause-put g c =
-    put-end (files_of g.S.SideFiles.opens g.S.SideFiles.gives g.S.SideFiles.fault_count) c.args.target.client c.args.target.store c.args.at c.args.side.now c.read.new.self c.args.recorded.now.session
+    put-end (files_of g.S.SideFiles.opens g.S.SideFiles.gives g.S.SideFiles.fault_count) c.args.target.client c.args.target.store c.args.at c.args.side.now c.read.new.self c.args.recorded.now
     (search rules)

@@ -4,4 +4,4 @@ use Rattle.wl_server.proofs.hearing.release_all.Given as goal
 
 -- the buttons before this one were released
 abbrev pub invariant-loop-code : goal.invariant-loop-code
-invariant-loop-code g l = ReleasedTo l.time l.buttons (drop l.code-index l.buttons) l.fn.recorded.session l.recorded.session
+invariant-loop-code g l = ReleasedTo g.R.Write.contents l.time l.buttons (drop l.code-index l.buttons) l.fn.recorded l.recorded

@@ -17,9 +17,9 @@ returns-clause-told g c =
     serving c.close_all.new.hub (record { accepted = c.connections.inside.accepted; seats = c.close_all.new.seats }) c.args.service.now.side c.args.service.now.waiting in
     on_ok_weaker c.close_all.result
     (λ closes. Reports-is (λ (s : Seated (Seat g.row.H-Conn.Denot)). FromFrame w 32 (serving c.args.service.now.hub s c.args.service.now.side c.args.service.now.waiting) to) begun
-    c.args.connections.now c.args.service.now.recorded.session c.close_all.new.recorded.session _ _ c.connections.view_is
+    c.args.connections.now c.args.service.now.recorded c.close_all.new.recorded _ _ c.connections.view_is
     (given-out-told w c.args.service.now.hub c.write_all.new.hub c.close_all.new.hub c.connections.inside.accepted c.connections.inside.seats c.write_all.new.seats
-    c.close_all.new.seats c.args.service.now.side c.args.service.now.waiting c.args.service.now.recorded.session c.write_all.new.recorded.session c.close_all.new.recorded.session _ _ c.write_all.ensures closes))
+    c.close_all.new.seats c.args.service.now.side c.args.service.now.waiting c.args.service.now.recorded c.write_all.new.recorded c.close_all.new.recorded _ _ c.write_all.ensures closes))
     c.close_all.ensures.told
 
 pub returns-clause-begun : goal.returns-clause-begun
@@ -33,8 +33,8 @@ returns-clause-begun g c =
       closed.0,
       closed.1,
       Takes-is (λ (s : Seated (Seat g.row.H-Conn.Denot)). FromFrame w closed.0 (serving c.args.service.now.hub s c.args.service.now.side c.args.service.now.waiting) to) begun
-          c.args.connections.now c.args.service.now.recorded.session c.close_all.new.recorded.session c.connections.view_is
+          c.args.connections.now c.args.service.now.recorded c.close_all.new.recorded c.connections.view_is
           (given-out w closed.0 c.args.service.now.hub c.write_all.new.hub c.close_all.new.hub c.connections.inside.accepted c.connections.inside.seats c.write_all.new.seats
-          c.close_all.new.seats c.args.service.now.side c.args.service.now.waiting c.args.service.now.recorded.session c.write_all.new.recorded.session c.close_all.new.recorded.session c.write_all.ensures closed.2),
+          c.close_all.new.seats c.args.service.now.side c.args.service.now.waiting c.args.service.now.recorded c.write_all.new.recorded c.close_all.new.recorded c.write_all.ensures closed.2),
     ))
     c.close_all.ensures.begun

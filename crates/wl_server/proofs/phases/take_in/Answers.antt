@@ -17,9 +17,9 @@ returns-in_err-accept_all-clause-begun g c =
     serving c.accept_all.new.hub (record { accepted = c.accept_all.new.accepted; seats = c.accept_all.new.seats }) c.args.service.now.side c.args.service.now.waiting in
     on-err c.from_residual.result
     (Takes-is (λ (s : Seated (Seat g.row.H-Conn.Denot)). StartsIn w (serving c.args.service.now.hub s c.args.service.now.side c.args.service.now.waiting) to) begun
-    c.args.connections.now c.args.service.now.recorded.session c.accept_all.new.recorded.session c.connections.view_is
+    c.args.connections.now c.args.service.now.recorded c.accept_all.new.recorded c.connections.view_is
     (begun-in w c.args.service.now.hub c.accept_all.new.hub c.connections.inside.accepted c.accept_all.new.accepted c.connections.inside.seats
-    c.accept_all.new.seats c.args.service.now.side c.args.service.now.waiting c.args.service.now.recorded.session c.accept_all.new.recorded.session c.in_err-accept_all.ensures.begun))
+    c.accept_all.new.seats c.args.service.now.side c.args.service.now.waiting c.args.service.now.recorded c.accept_all.new.recorded c.in_err-accept_all.ensures.begun))
 
 pub returns-clause-told : goal.returns-clause-told
 returns-clause-told g c =
@@ -29,8 +29,8 @@ returns-clause-told g c =
     let to : Serving g.row.H.Denot g.row.H-Conn.Denot g.row.S.Denot =
     serving c.read_and_fill.new.hub (record { accepted = c.accept_all.new.accepted; seats = c.read_and_fill.new.seats }) c.read_and_fill.new.side c.args.service.now.waiting in
     Reports-is (λ (s : Seated (Seat g.row.H-Conn.Denot)). TakesIn w files (serving c.args.service.now.hub s c.args.service.now.side c.args.service.now.waiting) to) begun
-    c.args.connections.now c.args.service.now.recorded.session c.read_and_fill.new.recorded.session _ _ c.connections.view_is
+    c.args.connections.now c.args.service.now.recorded c.read_and_fill.new.recorded _ _ c.connections.view_is
     (taken-in w files c.args.service.now.hub c.accept_all.new.hub c.read_and_fill.new.hub c.connections.inside.accepted c.accept_all.new.accepted
     c.connections.inside.seats c.accept_all.new.seats c.read_and_fill.new.seats c.args.service.now.side c.read_and_fill.new.side c.args.service.now.waiting
-    c.args.service.now.recorded.session c.accept_all.new.recorded.session c.read_and_fill.new.recorded.session _ _
+    c.args.service.now.recorded c.accept_all.new.recorded c.read_and_fill.new.recorded _ _
     c.in_ok-accept_all.ensures.told (c.read_and_fill.ensures c.accept_all.new.accepted c.args.service.now.waiting))

@@ -19,9 +19,9 @@ returns-in_err-accept_all-clause-begun g c =
     serving c.accept_all.new.hub (record { accepted = c.accept_all.new.accepted; seats = c.accept_all.new.seats }) c.args.service.now.side c.args.service.now.waiting in
     on-err c.from_residual.result
     (Takes-is (λ (s : Seated (Seat g.row.H-Conn.Denot)). StartsIn w (serving c.args.service.now.hub s c.args.service.now.side c.args.service.now.waiting) to) begun
-    c.args.connections.now c.args.service.now.recorded.session c.accept_all.new.recorded.session c.connections.view_is
+    c.args.connections.now c.args.service.now.recorded c.accept_all.new.recorded c.connections.view_is
     (begun-in w c.args.service.now.hub c.accept_all.new.hub c.connections.inside.accepted c.accept_all.new.accepted c.connections.inside.seats
-    c.accept_all.new.seats c.args.service.now.side c.args.service.now.waiting c.args.service.now.recorded.session c.accept_all.new.recorded.session c.in_err-accept_all.ensures.begun))
+    c.accept_all.new.seats c.args.service.now.side c.args.service.now.waiting c.args.service.now.recorded c.accept_all.new.recorded c.in_err-accept_all.ensures.begun))
 
 pub returns-clause-told : goal.returns-clause-told
 returns-clause-told g c =
@@ -32,7 +32,7 @@ returns-clause-told g c =
     serving c.share_all.new.hub (record { accepted = c.accept_all.new.accepted; seats = c.share_all.new.seats }) c.share_all.new.side c.args.service.now.waiting in
     let shares = c.share_all.ensures in
     Reports-is (λ (s : Seated (Seat g.row.H-Conn.Denot)). SharesIn w files (serving c.args.service.now.hub s c.args.service.now.side c.args.service.now.waiting) to) begun
-    c.args.connections.now c.args.service.now.recorded.session c.share_all.new.recorded.session _ _ c.connections.view_is
+    c.args.connections.now c.args.service.now.recorded c.share_all.new.recorded _ _ c.connections.view_is
     (shared-in w files shares.0 c.args.service.now.hub c.accept_all.new.hub c.share_all.new.hub c.connections.inside.accepted c.accept_all.new.accepted
     c.connections.inside.seats c.accept_all.new.seats c.share_all.new.seats c.args.service.now.side c.share_all.new.side c.args.service.now.waiting
-    c.args.service.now.recorded.session c.accept_all.new.recorded.session c.share_all.new.recorded.session _ _ shares.1 c.in_ok-accept_all.ensures.told shares.2)
+    c.args.service.now.recorded c.accept_all.new.recorded c.share_all.new.recorded _ _ shares.1 c.in_ok-accept_all.ensures.told shares.2)

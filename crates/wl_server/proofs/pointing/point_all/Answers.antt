@@ -4,7 +4,7 @@ use Rattle.wl_server.proofs.PointedLines.{left-more, left-none, pointed-all, poi
 use Rattle.wl_server.proofs.pointing.point_all.Goals as goal
 
 pub loop-line-init : goal.loop-line-init
-loop-line-init g c = record { left = refl; pointed = pointed-none c.args.time c.args.waiting.now c.args.recorded.now.session }
+loop-line-init g c = record { left = refl; pointed = pointed-none c.args.time c.args.waiting.now c.args.recorded.now }
 
 pub loop-line-preserved : goal.loop-line-preserved
 loop-line-preserved g c =

@@ -8,7 +8,7 @@ use Rattle.wl_server.proofs.pointing.point_all.Given as goal
 abbrev pub invariant-loop-line : goal.invariant-loop-line
 invariant-loop-line g l = record {
   left : left_at l.time l.waiting ≡ left_at l.time l.fn.waiting;
-  pointed : Takes (PointedTo l.time l.fn.waiting l.waiting) l.fn.recorded.session l.recorded.session;
+  pointed : Takes g.R.Write.contents (PointedTo l.time l.fn.waiting l.waiting) l.fn.recorded l.recorded;
 }
 
 abbrev pub decreases-loop-line : goal.decreases-loop-line

@@ -6,4 +6,4 @@ use Rattle.wl_server.proofs.reading.read_all.Given as goal
 -- the clients up to this one were served
 abbrev pub invariant-loop-k : goal.invariant-loop-k
 invariant-loop-k g l =
-    Takes (InTurn (AtSeat (Reads (ways g.H.Hub.accepts g.H.Hub.reads g.H.Hub.writes g.H.Hub.closes g.H.Hub.fault_count))) l.k (l.fn.hub, l.fn.seats) (l.hub, l.seats)) l.fn.recorded.session l.recorded.session
+    Takes g.R.Write.contents (InTurn (AtSeat (Reads (ways g.H.Hub.accepts g.H.Hub.reads g.H.Hub.writes g.H.Hub.closes g.H.Hub.fault_count))) l.k (l.fn.hub, l.fn.seats) (l.hub, l.seats)) l.fn.recorded l.recorded

@@ -7,4 +7,4 @@ use Rattle.wl_server.proofs.reading.read_client.Given as goal
 -- each read so far fed a piece
 abbrev pub invariant-loop-before : goal.invariant-loop-before
 invariant-loop-before g l =
-    Takes (FedSoFar (ways g.H.Hub.accepts g.H.Hub.reads g.H.Hub.writes g.H.Hub.closes g.H.Hub.fault_count) l.client l.before (l.fn.hub, record l.fn.seat { has_sent = false }) (l.hub, l.seat)) l.fn.recorded.session l.recorded.session
+    Takes g.R.Write.contents (FedSoFar (ways g.H.Hub.accepts g.H.Hub.reads g.H.Hub.writes g.H.Hub.closes g.H.Hub.fault_count) l.client l.before (l.fn.hub, record l.fn.seat { has_sent = false }) (l.hub, l.seat)) l.fn.recorded l.recorded

@@ -8,7 +8,7 @@ pub returns-in-Bytes : goal.returns-in-Bytes
 returns-in-Bytes g c =
     let came = c.in-Bytes.ensures.came in
     let long = length-take-le c.in-Bytes.count c.receive.new.buf came.1 in
-    read-fed (ways g.H.Hub.accepts g.H.Hub.reads g.H.Hub.writes g.H.Hub.closes g.H.Hub.fault_count) c.args.client _ _ _ _ _ _ c.feed.ensures.course
+    read-fed (ways g.H.Hub.accepts g.H.Hub.reads g.H.Hub.writes g.H.Hub.closes g.H.Hub.fault_count) c.args.client _ _ _ _ _ _ (c.feed.ensures.course, c.feed.ensures.noted)
     (record {
       conn = c.receive.new.conn;
       long = (omega (arith, long, came.0), omega (arith, long, came.1, c.requires.few));
@@ -28,5 +28,5 @@ returns-in-Later g c =
 
 pub returns-in-Gone : goal.returns-in-Gone
 returns-in-Gone g c =
-    read-gone (ways g.H.Hub.accepts g.H.Hub.reads g.H.Hub.writes g.H.Hub.closes g.H.Hub.fault_count) c.args.client _ _ _ _ _ c.gone.ensures.course
+    read-gone (ways g.H.Hub.accepts g.H.Hub.reads g.H.Hub.writes g.H.Hub.closes g.H.Hub.fault_count) c.args.client _ _ _ _ _ (c.gone.ensures.course, c.gone.ensures.noted)
     (record { conn = c.receive.new.conn; ends = inr (refl, c.in-Gone.ensures.came); kept = refl })

@@ -18,9 +18,9 @@ returns-in_err-show-clause-begun g c =
     let files = files_of g.S.SideFiles.opens g.S.SideFiles.gives g.S.SideFiles.fault_count in
     let from : Serving g.row.H.Denot g.row.H-Conn.Denot g.row.S.Denot = serving c.args.service.now.hub c.args.connections.now c.args.service.now.side c.args.service.now.waiting in
     let mid : Serving g.row.H.Denot g.row.H-Conn.Denot g.row.S.Denot = serving c.take_in.new.service.hub c.take_in.new.connections c.take_in.new.service.side c.take_in.new.service.waiting in
-    begun-frame (TakesIn w files) w c.args.time from mid c.args.service.now.recorded.session c.show.new.recorded.session
-    (shown-to (TakesIn w files) c.args.time from mid c.args.service.now.recorded.session c.take_in.new.service.recorded.session c.show.new.recorded.session
-    (Takes-told (TakesIn w files from mid) c.args.service.now.recorded.session c.take_in.new.service.recorded.session _ _ c.in_ok-take_in.ensures.told) c.in_err-show.ensures.taken)
+    begun-frame (TakesIn w files) w c.args.time from mid c.args.service.now.recorded c.show.new.recorded
+    (shown-to (TakesIn w files) c.args.time from mid c.args.service.now.recorded c.take_in.new.service.recorded c.show.new.recorded
+    (Takes-told (TakesIn w files from mid) c.args.service.now.recorded c.take_in.new.service.recorded _ _ c.in_ok-take_in.ensures.told) c.in_err-show.ensures.taken)
 
 pub returns-clause-taken : goal.returns-clause-taken
 returns-clause-taken g c =
@@ -30,7 +30,7 @@ returns-clause-taken g c =
     let mid : Serving g.row.H.Denot g.row.H-Conn.Denot g.row.S.Denot = serving c.take_in.new.service.hub c.take_in.new.connections c.take_in.new.service.side c.take_in.new.service.waiting in
     let to : Serving g.row.H.Denot g.row.H-Conn.Denot g.row.S.Denot = serving c.give_out.new.service.hub c.give_out.new.connections c.give_out.new.service.side c.give_out.new.service.waiting in
     on_ok_weaker c.give_out.result
-    (λ gives. served-told (TakesIn w files) w c.args.time from mid to c.args.service.now.recorded.session c.take_in.new.service.recorded.session c.show.new.recorded.session c.give_out.new.service.recorded.session _ _ _ _ _ _
+    (λ gives. served-told (TakesIn w files) w c.args.time from mid to c.args.service.now.recorded c.take_in.new.service.recorded c.show.new.recorded c.give_out.new.service.recorded _ _ _ _ _ _
     (takes-in-pass w files from mid) c.in_ok-take_in.ensures.told c.in_ok-show.ensures.told gives)
     c.give_out.ensures.told
 
@@ -41,7 +41,7 @@ returns-clause-begun g c =
     let from : Serving g.row.H.Denot g.row.H-Conn.Denot g.row.S.Denot = serving c.args.service.now.hub c.args.connections.now c.args.service.now.side c.args.service.now.waiting in
     let mid : Serving g.row.H.Denot g.row.H-Conn.Denot g.row.S.Denot = serving c.take_in.new.service.hub c.take_in.new.connections c.take_in.new.service.side c.take_in.new.service.waiting in
     let to : Serving g.row.H.Denot g.row.H-Conn.Denot g.row.S.Denot = serving c.give_out.new.service.hub c.give_out.new.connections c.give_out.new.service.side c.give_out.new.service.waiting in
-    let given = gives-begun w c.give_out.result mid to c.show.new.recorded.session c.give_out.new.service.recorded.session _ _ c.give_out.ensures.told c.give_out.ensures.begun in
-    begun-closing (TakesIn w files) w c.args.time given.0 from mid to c.args.service.now.recorded.session c.show.new.recorded.session c.give_out.new.service.recorded.session given.1
-    (shown-to (TakesIn w files) c.args.time from mid c.args.service.now.recorded.session c.take_in.new.service.recorded.session c.show.new.recorded.session
-    (Takes-told (TakesIn w files from mid) c.args.service.now.recorded.session c.take_in.new.service.recorded.session _ _ c.in_ok-take_in.ensures.told) c.in_ok-show.ensures.taken) given.2
+    let given = gives-begun w c.give_out.result mid to c.show.new.recorded c.give_out.new.service.recorded _ _ c.give_out.ensures.told c.give_out.ensures.begun in
+    begun-closing (TakesIn w files) w c.args.time given.0 from mid to c.args.service.now.recorded c.show.new.recorded c.give_out.new.service.recorded given.1
+    (shown-to (TakesIn w files) c.args.time from mid c.args.service.now.recorded c.take_in.new.service.recorded c.show.new.recorded
+    (Takes-told (TakesIn w files from mid) c.args.service.now.recorded c.take_in.new.service.recorded _ _ c.in_ok-take_in.ensures.told) c.in_ok-show.ensures.taken) given.2

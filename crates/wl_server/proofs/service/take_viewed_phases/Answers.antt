@@ -18,7 +18,7 @@ returns-clause-taken g c =
     (λ gives. (
       shown.0,
       served-viewed (TakesIn w files) w c.args.time shown.0 c.args.viewing.now.hub c.args.viewing.now.watcher c.show_viewed.new.place from mid to
-          c.args.service.now.recorded.session c.take_in.new.service.recorded.session c.show_viewed.new.recorded.session c.give_out.new.service.recorded.session _ _ _ _ _ _
+          c.args.service.now.recorded c.take_in.new.service.recorded c.show_viewed.new.recorded c.give_out.new.service.recorded _ _ _ _ _ _
           (takes-in-pass w files from mid) c.in_ok-take_in.ensures.told shown.1 gives,
     ))
     c.give_out.ensures.told

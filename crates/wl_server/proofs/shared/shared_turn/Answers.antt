@@ -12,7 +12,7 @@ returns-clause-taken g c =
     let files = files_of g.S.SideFiles.opens g.S.SideFiles.gives g.S.SideFiles.fault_count in
     let from = c.args.service.now in
     let to = serving c.take_phases.new.service.hub c.take_phases.new.connections c.take_phases.new.service.side c.take_phases.new.service.waiting in
-    served-told (IsSharedTurn w files c.args.time (serving from.hub c.args.connections.now from.side from.waiting) to) _ _ _ _ _ _ c.take_phases.result
+    served-told g.R.Write.contents (IsSharedTurn w files c.args.time (serving from.hub c.args.connections.now from.side from.waiting) to) _ _ _ _ _ _ c.take_phases.result
     (on_ok_weaker c.take_phases.result
     (λ serves. turn-told (SharesIn w files) w c.args.time from.hub c.args.connections.now from.side from.waiting to _ _ _ _ _ _ _ c.point_all.ensures.pointed
     (rw (← c.point_all.ensures.left) serves))

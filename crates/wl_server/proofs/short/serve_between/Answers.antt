@@ -20,7 +20,7 @@ returns-in_err-give_out-clause-begun g c =
     let from : Serving g.row.H.Denot g.row.H-Conn.Denot g.row.S.Denot = serving c.args.service.now.hub c.args.connections.now c.args.service.now.side c.args.service.now.waiting in
     let mid : Serving g.row.H.Denot g.row.H-Conn.Denot g.row.S.Denot = serving c.take_shared_in.new.service.hub c.take_shared_in.new.connections c.take_shared_in.new.service.side c.take_shared_in.new.service.waiting in
     let to : Serving g.row.H.Denot g.row.H-Conn.Denot g.row.S.Denot = serving c.give_out.new.service.hub c.give_out.new.connections c.give_out.new.service.side c.give_out.new.service.waiting in
-    between-begun (SharesIn w files) w from mid to c.args.service.now.recorded.session c.take_shared_in.new.service.recorded.session c.give_out.new.service.recorded.session
+    between-begun (SharesIn w files) w from mid to c.args.service.now.recorded c.take_shared_in.new.service.recorded c.give_out.new.service.recorded
     (Takes-told (SharesIn w files from mid) _ _ _ _ c.in_ok-take_shared_in.ensures.told) c.in_err-give_out.ensures.begun
 
 pub returns-then-count-accepted-clause-begun : goal.returns-then-count-accepted-clause-begun
@@ -30,7 +30,7 @@ returns-then-count-accepted-clause-begun g c =
     let from : Serving g.row.H.Denot g.row.H-Conn.Denot g.row.S.Denot = serving c.args.service.now.hub c.args.connections.now c.args.service.now.side c.args.service.now.waiting in
     let mid : Serving g.row.H.Denot g.row.H-Conn.Denot g.row.S.Denot = serving c.take_shared_in.new.service.hub c.take_shared_in.new.connections c.take_shared_in.new.service.side c.take_shared_in.new.service.waiting in
     let to : Serving g.row.H.Denot g.row.H-Conn.Denot g.row.S.Denot = serving c.give_out.new.service.hub c.give_out.new.connections c.give_out.new.service.side c.give_out.new.service.waiting in
-    between-begun (SharesIn w files) w from mid to c.args.service.now.recorded.session c.take_shared_in.new.service.recorded.session c.give_out.new.service.recorded.session
+    between-begun (SharesIn w files) w from mid to c.args.service.now.recorded c.take_shared_in.new.service.recorded c.give_out.new.service.recorded
     (Takes-told (SharesIn w files from mid) _ _ _ _ c.in_ok-take_shared_in.ensures.told)
     (32, omega arith, Takes-told (FromFrame w 32 mid to) _ _ _ _ c.in_ok-give_out.ensures.told)
 
@@ -41,7 +41,7 @@ returns-else-count-accepted-clause-begun g c =
     let from : Serving g.row.H.Denot g.row.H-Conn.Denot g.row.S.Denot = serving c.args.service.now.hub c.args.connections.now c.args.service.now.side c.args.service.now.waiting in
     let mid : Serving g.row.H.Denot g.row.H-Conn.Denot g.row.S.Denot = serving c.take_shared_in.new.service.hub c.take_shared_in.new.connections c.take_shared_in.new.service.side c.take_shared_in.new.service.waiting in
     let to : Serving g.row.H.Denot g.row.H-Conn.Denot g.row.S.Denot = serving c.give_out.new.service.hub c.give_out.new.connections c.give_out.new.service.side c.give_out.new.service.waiting in
-    between-begun (SharesIn w files) w from mid to c.args.service.now.recorded.session c.take_shared_in.new.service.recorded.session c.give_out.new.service.recorded.session
+    between-begun (SharesIn w files) w from mid to c.args.service.now.recorded c.take_shared_in.new.service.recorded c.give_out.new.service.recorded
     (Takes-told (SharesIn w files from mid) _ _ _ _ c.in_ok-take_shared_in.ensures.told)
     (32, omega arith, Takes-told (FromFrame w 32 mid to) _ _ _ _ c.in_ok-give_out.ensures.told)
 
@@ -52,7 +52,7 @@ returns-then-count-accepted-clause-told g c =
     let from : Serving g.row.H.Denot g.row.H-Conn.Denot g.row.S.Denot = serving c.args.service.now.hub c.args.connections.now c.args.service.now.side c.args.service.now.waiting in
     let mid : Serving g.row.H.Denot g.row.H-Conn.Denot g.row.S.Denot = serving c.take_shared_in.new.service.hub c.take_shared_in.new.connections c.take_shared_in.new.service.side c.take_shared_in.new.service.waiting in
     let to : Serving g.row.H.Denot g.row.H-Conn.Denot g.row.S.Denot = serving c.give_out.new.service.hub c.give_out.new.connections c.give_out.new.service.side c.give_out.new.service.waiting in
-    Reports-both (SharesIn w files) (FromFrame w 32) from mid to c.args.service.now.recorded.session c.take_shared_in.new.service.recorded.session c.give_out.new.service.recorded.session _ _ _
+    Reports-both (SharesIn w files) (FromFrame w 32) from mid to c.args.service.now.recorded c.take_shared_in.new.service.recorded c.give_out.new.service.recorded _ _ _
     c.in_ok-take_shared_in.ensures.told c.in_ok-give_out.ensures.told
 
 pub returns-else-count-accepted-clause-told : goal.returns-else-count-accepted-clause-told
@@ -62,5 +62,5 @@ returns-else-count-accepted-clause-told g c =
     let from : Serving g.row.H.Denot g.row.H-Conn.Denot g.row.S.Denot = serving c.args.service.now.hub c.args.connections.now c.args.service.now.side c.args.service.now.waiting in
     let mid : Serving g.row.H.Denot g.row.H-Conn.Denot g.row.S.Denot = serving c.take_shared_in.new.service.hub c.take_shared_in.new.connections c.take_shared_in.new.service.side c.take_shared_in.new.service.waiting in
     let to : Serving g.row.H.Denot g.row.H-Conn.Denot g.row.S.Denot = serving c.give_out.new.service.hub c.give_out.new.connections c.give_out.new.service.side c.give_out.new.service.waiting in
-    Reports-both (SharesIn w files) (FromFrame w 32) from mid to c.args.service.now.recorded.session c.take_shared_in.new.service.recorded.session c.give_out.new.service.recorded.session _ _ _
+    Reports-both (SharesIn w files) (FromFrame w 32) from mid to c.args.service.now.recorded c.take_shared_in.new.service.recorded c.give_out.new.service.recorded _ _ _
     c.in_ok-take_shared_in.ensures.told c.in_ok-give_out.ensures.told

@@ -1,27 +1,14 @@
-use Rattle.std.proofs.Common.{◌<◌, ℕ, refl, ap, sym, subst, ◌∙◌, arith}
+use Rattle.std.proofs.Common.{◌<◌, ℕ, ap, sym, subst, ◌∙◌, arith}
 use Rattle.std.proofs.lemmas.Result.{on_ok_weaker}
 use Rattle.std.specs.Io.KnownBytes.{Appends}
 use Rattle.std.proofs.KnownBytes.{Appends-nil}
-use Rattle.spec_desktop.specs.Act.{Tick}
-use Rattle.spec_desktop.specs.declared.answers.Done.TheVariants as gave
 use Rattle.wl_recording.specs.Text.{frame_line}
 use Rattle.wl_session.specs.Damage.{Damaged, count_points, has}
 use Rattle.wl_session.specs.Frame.{Image}
 use Rattle.wl_session.specs.Image.{image_of}
-use Rattle.wl_server.specs.Phases.{Shows}
-use Rattle.wl_server.proofs.Taking.{Takes-one}
 use Rattle.wl_recording.specs.Images.{images_in}
-use Rattle.wl_server.proofs.Telling.{Tells-one, ok-kept, on-ok-kept, painted-none, painted-some}
+use Rattle.wl_server.proofs.Telling.{ok-kept, on-ok-kept, painted-none, painted-some}
 use Rattle.wl_server.proofs.showing.show_frame.Goals as goal
-
-pub returns-then-count-eq0-clause-taken : goal.returns-then-count-eq0-clause-taken
-returns-then-count-eq0-clause-taken g c = Takes-one (Shows c.args.time) _ _ _ _ c.tick-frame.follows.holds-at-none.2 (λ d e es agrees parts. refl)
-
-pub returns-in_err-map_err-clause-taken : goal.returns-in_err-map_err-clause-taken
-returns-in_err-map_err-clause-taken g c = Takes-one (Shows c.args.time) _ _ _ _ c.tick-frame.follows.holds-at-none.2 (λ d e es agrees parts. refl)
-
-pub returns-clause-taken : goal.returns-clause-taken
-returns-clause-taken g c = Takes-one (Shows c.args.time) _ _ _ _ c.tick-frame.follows.holds-at-none.2 (λ d e es agrees parts. refl)
 
 pub returns-then-count-eq0-clause-course : goal.returns-then-count-eq0-clause-course
 returns-then-count-eq0-clause-course g c = c.tick-frame.follows.holds-at-none.2
@@ -38,11 +25,10 @@ pub returns-then-count-eq0-clause-told : goal.returns-then-count-eq0-clause-told
 returns-then-count-eq0-clause-told g c =
     let damage = c.tick-frame.ensures.damage in
     let counts = c.count-count.ensures ∙ ap (λ (m : Damaged). count_points m.width m.height (has m)) damage in
-    Tells-one (Shows c.args.time) (Tick c.args.time) gave.Tick _ _ _ _ _ _ (λ hs is. is) c.tick-frame.follows.holds-at-none.2 (λ d e es. refl)
-    (λ d e agrees. (
+    λ d e agrees. (
       subst (Appends (g.W.Write.contents c.args.report.now) (g.W.Write.contents c.args.report.now)) (sym (painted-none _ _ (sym counts ∙ c.if-count-eq0.true))) (Appends-nil _),
       subst (Appends (images_in g.P.Write.contents c.args.ppm.now) (images_in g.P.Write.contents c.args.ppm.now)) (sym (painted-none _ _ (sym counts ∙ c.if-count-eq0.true))) (Appends-nil _),
-    ))
+    )
 
 pub returns-clause-told : goal.returns-clause-told
 returns-clause-told g c =
@@ -52,12 +38,11 @@ returns-clause-told g c =
     let some : 0 < c.count-count.result = omega arith in
     on-ok-kept c.write_image.result c.map_err-2.result _
     (on_ok_weaker c.write_image.result
-    (λ shown. Tells-one (Shows c.args.time) (Tick c.args.time) gave.Tick _ _ _ _ _ _ (λ hs is. is) next.2 (λ d e es. refl)
-    (λ d e agrees. (
+    (λ shown d e agrees. (
       subst (Appends (g.W.Write.contents c.args.report.now) (g.W.Write.contents c.write_frame.new.writer)) (sym (painted-some _ _ (subst (λ (n : ℕ). 0 < n) counts some)))
           (subst (λ (n : ℕ). Appends (g.W.Write.contents c.args.report.now) (g.W.Write.contents c.write_frame.new.writer) (frame_line c.args.time n)) counts wrote),
       subst (Appends (images_in g.P.Write.contents c.args.ppm.now) (images_in g.P.Write.contents c.write_image.new.ppm)) (sym (painted-some _ _ (subst (λ (n : ℕ). 0 < n) counts some)))
           (subst (λ (i : Image). Appends (images_in g.P.Write.contents c.args.ppm.now) (images_in g.P.Write.contents c.write_image.new.ppm) (image_of i.width i.height i.pixels)) (sym next.1) shown),
-    )))
+    ))
     c.write_image.ensures)
     c.map_err-2.ensures.variant

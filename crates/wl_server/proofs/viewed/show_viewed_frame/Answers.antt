@@ -1,16 +1,14 @@
-use Rattle.std.proofs.Common.{◌<◌, ℕ, refl, ap, sym, subst, ◌∙◌, arith}
+use Rattle.std.proofs.Common.{◌<◌, ℕ, ap, sym, subst, ◌∙◌, arith}
 use Rattle.std.proofs.lemmas.Result.{on_ok_weaker}
 use Rattle.std.specs.Io.KnownBytes.{Appends}
 use Rattle.std.proofs.KnownBytes.{Appends-nil}
-use Rattle.spec_desktop.specs.Act.{Tick}
-use Rattle.spec_desktop.specs.declared.answers.Done.TheVariants as gave
 use Rattle.wl_recording.specs.Text.{frame_line}
 use Rattle.wl_session.specs.Damage.{Damaged, count_points, has}
 use Rattle.wl_session.specs.Frame.{Image}
 use Rattle.wl_session.specs.Image.{image_of}
 use Rattle.wl_recording.specs.Images.{images_in}
-use Rattle.wl_server.specs.Watching.{RefreshesPlace, Shows}
-use Rattle.wl_server.proofs.Telling.{Tells-one, ok-kept, on-ok-kept, painted-none, painted-some}
+use Rattle.wl_server.specs.Watching.{RefreshesPlace}
+use Rattle.wl_server.proofs.Telling.{ok-kept, on-ok-kept, painted-none, painted-some}
 use Rattle.wl_server.proofs.viewed.show_viewed_frame.Goals as goal
 
 pub returns-then-count-eq0-clause-told : goal.returns-then-count-eq0-clause-told
@@ -22,11 +20,11 @@ returns-then-count-eq0-clause-told g c =
     subst (λ (i : Image). RefreshesPlace c.args.session.now.damage i c.args.time c.refresh.ensures.0 c.args.place.now c.refresh.new.place) (sym next.1)
     (subst (λ (m : Damaged). RefreshesPlace m c.tick-frame.result.pixels.now c.args.time c.refresh.ensures.0 c.args.place.now c.refresh.new.place) damage c.refresh.ensures.1) in (
       c.refresh.ensures.0,
-      Tells-one (Shows c.args.time c.refresh.ensures.0 c.args.place.now c.refresh.new.place) (Tick c.args.time) gave.Tick _ _ _ _ _ _ (λ hs is. is) next.2 (λ d e es. (refl, told))
-          (λ d e agrees. (
-            subst (Appends (g.W.Write.contents c.args.report.now) (g.W.Write.contents c.args.report.now)) (sym (painted-none _ _ (sym counts ∙ c.if-count-eq0.true))) (Appends-nil _),
-            subst (Appends (images_in g.P.Write.contents c.args.ppm.now) (images_in g.P.Write.contents c.args.ppm.now)) (sym (painted-none _ _ (sym counts ∙ c.if-count-eq0.true))) (Appends-nil _),
-          )),
+      told,
+      λ d e agrees. (
+        subst (Appends (g.W.Write.contents c.args.report.now) (g.W.Write.contents c.args.report.now)) (sym (painted-none _ _ (sym counts ∙ c.if-count-eq0.true))) (Appends-nil _),
+        subst (Appends (images_in g.P.Write.contents c.args.ppm.now) (images_in g.P.Write.contents c.args.ppm.now)) (sym (painted-none _ _ (sym counts ∙ c.if-count-eq0.true))) (Appends-nil _),
+      ),
     )
 
 pub returns-clause-told : goal.returns-clause-told
@@ -43,13 +41,13 @@ returns-clause-told g c =
     (on_ok_weaker c.write_image.result
     (λ shown. (
       c.refresh.ensures.0,
-      Tells-one (Shows c.args.time c.refresh.ensures.0 c.args.place.now c.refresh.new.place) (Tick c.args.time) gave.Tick _ _ _ _ _ _ (λ hs is. is) next.2 (λ d e es. (refl, told))
-          (λ d e agrees. (
-            subst (Appends (g.W.Write.contents c.args.report.now) (g.W.Write.contents c.write_frame.new.writer)) (sym (painted-some _ _ (subst (λ (n : ℕ). 0 < n) counts some)))
-                (subst (λ (n : ℕ). Appends (g.W.Write.contents c.args.report.now) (g.W.Write.contents c.write_frame.new.writer) (frame_line c.args.time n)) counts wrote),
-            subst (Appends (images_in g.P.Write.contents c.args.ppm.now) (images_in g.P.Write.contents c.write_image.new.ppm)) (sym (painted-some _ _ (subst (λ (n : ℕ). 0 < n) counts some)))
-                (subst (λ (i : Image). Appends (images_in g.P.Write.contents c.args.ppm.now) (images_in g.P.Write.contents c.write_image.new.ppm) (image_of i.width i.height i.pixels)) (sym next.1) shown),
-          )),
+      told,
+      λ d e agrees. (
+        subst (Appends (g.W.Write.contents c.args.report.now) (g.W.Write.contents c.write_frame.new.writer)) (sym (painted-some _ _ (subst (λ (n : ℕ). 0 < n) counts some)))
+            (subst (λ (n : ℕ). Appends (g.W.Write.contents c.args.report.now) (g.W.Write.contents c.write_frame.new.writer) (frame_line c.args.time n)) counts wrote),
+        subst (Appends (images_in g.P.Write.contents c.args.ppm.now) (images_in g.P.Write.contents c.write_image.new.ppm)) (sym (painted-some _ _ (subst (λ (n : ℕ). 0 < n) counts some)))
+            (subst (λ (i : Image). Appends (images_in g.P.Write.contents c.args.ppm.now) (images_in g.P.Write.contents c.write_image.new.ppm) (image_of i.width i.height i.pixels)) (sym next.1) shown),
+      ),
     ))
     c.write_image.ensures)
     c.map_err-2.ensures.variant

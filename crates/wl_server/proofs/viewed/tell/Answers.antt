@@ -7,5 +7,5 @@ use Rattle.wl_server.proofs.viewed.tell.Goals as goal
 pub returns : goal.returns
 returns g c =
     let w = ways g.V.Hub.accepts g.V.Hub.reads g.V.Hub.writes g.V.Hub.closes g.V.Hub.fault_count in
-    rw (← c.recorded.view_is) (Takes-both (IfWatched (Then (Answering c.args.time) (Writing w))) (Dismisses w c.args.time) (c.args.hub.now, c.args.place.now) (c.reply.new.hub, c.reply.new.place) (c.dismiss.new.hub, c.dismiss.new.place)
-    c.recorded.inside.session c.recorded.inside.session c.dismiss.new.recorded.session c.reply.ensures (rw (← c.recorded.view_is) at c.dismiss.ensures))
+    Takes-both (IfWatched (Then (Answering c.args.time) (Writing w))) (Dismisses w c.args.time) (c.args.hub.now, c.args.place.now) (c.reply.new.hub, c.reply.new.place) (c.dismiss.new.hub, c.dismiss.new.place)
+    c.args.recorded.now c.args.recorded.now c.dismiss.new.recorded c.reply.ensures c.dismiss.ensures

@@ -9,7 +9,7 @@ returns-in_default g c =
 
 pub returns-then-delivered : goal.returns-then-delivered
 returns-then-delivered g c =
-    rw (← c.recorded.view_is) (write-gone (ways g.H.Hub.accepts g.H.Hub.reads g.H.Hub.writes g.H.Hub.closes g.H.Hub.fault_count) c.args.client _ c.in-Some.bytes.now _ _ _ _ _ _ _ c.in-Some.ensures (rw (← c.recorded.view_is) at c.sent.ensures.course) c.gone.ensures.course
+    rw (← c.recorded.view_is) (write-gone (ways g.H.Hub.accepts g.H.Hub.reads g.H.Hub.writes g.H.Hub.closes g.H.Hub.fault_count) c.args.client _ c.in-Some.bytes.now _ _ _ _ _ _ _ c.in-Some.ensures (rw (← c.recorded.view_is) at c.sent.ensures.course, rw (← c.recorded.view_is) at c.sent.ensures.noted) (c.gone.ensures.course, c.gone.ensures.noted)
     (record {
       sent = c.deliver-delivered.result.bytes;
       is_gone = true;
@@ -22,7 +22,7 @@ returns-then-delivered g c =
 
 pub returns-else-delivered : goal.returns-else-delivered
 returns-else-delivered g c =
-    rw (← c.recorded.view_is) (write-some (ways g.H.Hub.accepts g.H.Hub.reads g.H.Hub.writes g.H.Hub.closes g.H.Hub.fault_count) c.args.client _ c.in-Some.bytes.now _ _ _ _ _ c.in-Some.ensures (rw (← c.recorded.view_is) at c.sent.ensures.course)
+    rw (← c.recorded.view_is) (write-some (ways g.H.Hub.accepts g.H.Hub.reads g.H.Hub.writes g.H.Hub.closes g.H.Hub.fault_count) c.args.client _ c.in-Some.bytes.now _ _ _ _ _ c.in-Some.ensures (rw (← c.recorded.view_is) at c.sent.ensures.course, rw (← c.recorded.view_is) at c.sent.ensures.noted)
     (record {
       sent = c.deliver-delivered.result.bytes;
       is_gone = false;
