@@ -216,17 +216,34 @@ impl<'a> Plan<'a> {
             Act::ShowsEither(both, one) => self.add(Planned::TickEither(both, one)),
         }
     }
+
+    fn add_acts(&mut self, acts: &'a [Act<'a>]) {
+        for act in acts {
+            self.add_act(*act);
+        }
+    }
+}
+
+fn begun<'a>(alloc: Global) -> Plan<'a> {
+    Plan {
+        steps: Vec::new(alloc),
+        bytes: Vec::new(alloc),
+        failed: false,
+    }
 }
 
 /// The steps of some acts. None where there is no memory for them.
 pub(crate) fn plan_of<'a>(alloc: Global, acts: &'a [Act<'a>]) -> Option<Plan<'a>> {
-    let mut plan = Plan {
-        steps: Vec::new(alloc),
-        bytes: Vec::new(alloc),
-        failed: false,
-    };
-    for act in acts {
-        plan.add_act(*act);
+    let mut plan = begun(alloc);
+    plan.add_acts(acts);
+    if plan.failed { None } else { Some(plan) }
+}
+
+/// The steps of acts that come part by part.
+pub(crate) fn plan_of_parts<'a>(alloc: Global, parts: &[&'a [Act<'a>]]) -> Option<Plan<'a>> {
+    let mut plan = begun(alloc);
+    for acts in parts {
+        plan.add_acts(acts);
     }
     if plan.failed { None } else { Some(plan) }
 }
@@ -289,14 +306,27 @@ fn sent_by<'a>(act: Act<'a>, client: u32) -> &'a [Message<'a>] {
     }
 }
 
-/// All that a client sends. None where there is no memory for it.
-pub(crate) fn stream_of(alloc: Global, acts: &[Act], client: u32) -> Option<Vec<u8, Global>> {
-    let mut stream = Vec::new(alloc);
+/// Adds to a stream what a client sends. None where there is no memory for it.
+fn add_stream(
+    alloc: Global,
+    stream: &mut Vec<u8, Global>,
+    acts: &[Act],
+    client: u32,
+) -> Option<()> {
     for act in acts {
         let bytes = bytes_of(alloc, sent_by(*act, client))?;
         if stream.extend_from_slice(&bytes).is_err() {
             return None;
         }
+    }
+    Some(())
+}
+
+/// All that a client sends, part by part. None where there is no memory for it.
+pub(crate) fn stream_of(alloc: Global, parts: &[&[Act]], client: u32) -> Option<Vec<u8, Global>> {
+    let mut stream = Vec::new(alloc);
+    for acts in parts {
+        add_stream(alloc, &mut stream, acts, client)?;
     }
     Some(stream)
 }

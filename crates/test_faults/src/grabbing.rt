@@ -20,7 +20,7 @@ const STAYS: &[Act] = &[
     Act::Sends(1, SEAT),
 ];
 
-/// What the client 2 sends before the button is pressed, and all that it sends.
+/// What the client 2 sends before the button is pressed, and after that.
 const BEFORE: &[Act] = &[
     Act::Sends(2, BEGINS),
     Act::Sends(2, WIDE_BUFFERS),
@@ -28,14 +28,11 @@ const BEFORE: &[Act] = &[
     Act::Sends(2, SEAT),
 ];
 
-const SENT: &[Act] = &[
-    Act::Sends(2, BEGINS),
-    Act::Sends(2, WIDE_BUFFERS),
-    Act::Maps(2, MAPS_WIDE),
-    Act::Sends(2, SEAT),
-    Act::Sends(2, GRABS),
-    Act::Sends(2, SHOWS_POPUP),
-];
+const AFTER: &[Act] = &[Act::Sends(2, GRABS), Act::Sends(2, SHOWS_POPUP)];
+
+fn begin_staying(alloc: Global, session: &mut Session<Global>) -> bool {
+    begin(alloc, session, STAYS)
+}
 
 /// The button is pressed over the window of the client 2 alone.
 fn press(session: &mut Session<Global>) {
@@ -77,7 +74,7 @@ fn plays(session: &mut Session<Global>, stream: &[u8], split: usize) -> bool {
 fn stays_beside(alloc: Global, stream: &[u8], split: usize, known: &Known) -> bool {
     match Session::new(alloc, OUTPUT) {
         Ok(mut session) => {
-            begin(alloc, &mut session, STAYS)
+            begin_staying(alloc, &mut session)
                 && plays(&mut session, stream, split)
                 && is_known(&mut session, known)
         }
@@ -139,7 +136,7 @@ fn known_alone(alloc: Global) -> Option<Known> {
 }
 
 fn known_pointed(alloc: Global, session: &mut Session<Global>) -> Option<Known> {
-    if !begin(alloc, session, STAYS) {
+    if !begin_staying(alloc, session) {
         return None;
     }
     press(session);
@@ -149,8 +146,13 @@ fn known_pointed(alloc: Global, session: &mut Session<Global>) -> Option<Known> 
 
 /// The stream of the client 2, and where it is split. None where there is no memory for it.
 fn split_stream(alloc: Global) -> Option<(Vec<u8, Global>, usize)> {
-    let split = stream_of(alloc, BEFORE, 2)?.len();
-    Some((stream_of(alloc, SENT, 2)?, split))
+    let mut stream = stream_of(alloc, &[BEFORE], 2)?;
+    let split = stream.len();
+    let rest = stream_of(alloc, &[AFTER], 2)?;
+    if stream.extend_from_slice(&rest).is_err() {
+        return None;
+    }
+    Some((stream, split))
 }
 
 #[test]
@@ -193,7 +195,7 @@ fn grabs(session: &mut Session<Global>, stream: &[u8], split: usize) -> bool {
 fn grabs_beside(alloc: Global) -> bool {
     match (Session::new(alloc, OUTPUT), split_stream(alloc)) {
         (Ok(mut session), Some((stream, split))) => {
-            begin(alloc, &mut session, STAYS) && grabs(&mut session, &stream, split)
+            begin_staying(alloc, &mut session) && grabs(&mut session, &stream, split)
         }
         _ => false,
     }

@@ -20,6 +20,10 @@ mod refused;
 #[cfg(test)]
 mod rivals;
 #[cfg(test)]
+mod runs;
+#[cfg(test)]
+mod scenes;
+#[cfg(test)]
 mod settling;
 #[cfg(test)]
 mod slow;

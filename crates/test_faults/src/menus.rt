@@ -2,8 +2,8 @@
 //! press.
 
 use crate::acts::{Act, Layer};
-use crate::recorded::{BEGINS, BEGUN, MAPS_WIDE, PARENT, WIDE_BUFFERS};
-use test_rows::begun::{ANNOUNCED, COMMIT};
+use crate::recorded::PARENT;
+use test_rows::begun::COMMIT;
 use test_rows::rows::Message;
 use wl_wire::{Arg, Fixed};
 
@@ -87,18 +87,15 @@ const MOVED: Layer = Layer {
     color: [0, 0, 0],
 };
 
-/// A window has a popup, which goes along with it and is dismissed as it goes.
-pub(crate) const MENU: &[Act] = &[
-    Act::Connects(1),
-    Act::Sends(1, BEGINS),
-    Act::Told(1, ANNOUNCED),
-    Act::Told(1, BEGUN),
-    Act::Sends(1, WIDE_BUFFERS),
-    Act::Fills(1, 1, 0, 6400, 128),
-    Act::Maps(1, MAPS_WIDE),
+/// The window is shown, and has a popup that is placed.
+pub(crate) const PLACED_POPUP: &[Act] = &[
     Act::Shows(&[PARENT]),
     Act::Sends(1, MAKES_POPUP),
     Act::Told(1, PLACED),
+];
+
+/// The popup is shown, goes along with its parent and is dismissed as that goes.
+pub(crate) const MENU: &[Act] = &[
     Act::Sends(1, SHOWS_POPUP),
     Act::Silent(1),
     Act::Shows(&[PARENT, POPUP]),
@@ -175,20 +172,11 @@ const LEFT: &[Message] = &[Message(13, 1, &[Arg::Uint(6), Arg::Object(6)])];
 
 const DONE: &[Message] = &[Message(17, 1, &[])];
 
-/// A window has a popup that grabs, and which a press where nothing is dismisses.
+/// The client 1 has a wl_pointer.
+pub(crate) const SEATED: &[Act] = &[Act::Sends(1, SEAT), Act::Told(1, CAPABLE)];
+
+/// The popup grabs, and a press where nothing is dismisses it.
 pub(crate) const GRAB: &[Act] = &[
-    Act::Connects(1),
-    Act::Sends(1, BEGINS),
-    Act::Told(1, ANNOUNCED),
-    Act::Told(1, BEGUN),
-    Act::Sends(1, WIDE_BUFFERS),
-    Act::Fills(1, 1, 0, 6400, 128),
-    Act::Maps(1, MAPS_WIDE),
-    Act::Shows(&[PARENT]),
-    Act::Sends(1, MAKES_POPUP),
-    Act::Told(1, PLACED),
-    Act::Sends(1, SEAT),
-    Act::Told(1, CAPABLE),
     Act::Points(5, 4),
     Act::Told(1, ENTERED),
     Act::Presses(true),

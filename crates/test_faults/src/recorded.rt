@@ -158,22 +158,34 @@ const CHANGES_NINE: &[Message] = &[
 
 const RELEASED_10: &[Message] = &[Message(10, 0, &[])];
 
-/// The client 1 shows a window that is black, and the client 2 a grey one above it; then nine points of the lower one change.
-pub(crate) const TWO_WINDOWS: &[Act] = &[
+/// The client 1 has a toplevel that was configured, and its buffers.
+pub(crate) const FIRST_CLIENT: &[Act] = &[
     Act::Connects(1),
     Act::Sends(1, BEGINS),
     Act::Told(1, ANNOUNCED),
     Act::Told(1, BEGUN),
     Act::Sends(1, WIDE_BUFFERS),
+];
+
+/// The client 2 has a toplevel that was configured.
+pub(crate) const SECOND_CLIENT: &[Act] = &[
+    Act::Connects(2),
+    Act::Sends(2, BEGINS),
+    Act::Told(2, ANNOUNCED),
+    Act::Told(2, BEGUN),
+];
+
+/// The window of the client 1 is mapped in black; nine points of its other buffer are red.
+pub(crate) const BLACK_WINDOW: &[Act] = &[
     Act::Stores(1, 1, 11804, THREE_RED),
     Act::Stores(1, 1, 11964, THREE_RED),
     Act::Stores(1, 1, 12124, THREE_RED),
     Act::Maps(1, MAPS_WIDE),
     Act::Shows(&[WIDE]),
-    Act::Connects(2),
-    Act::Sends(2, BEGINS),
-    Act::Told(2, ANNOUNCED),
-    Act::Told(2, BEGUN),
+];
+
+/// The client 2 shows a grey window above that; then nine points of the lower one change.
+pub(crate) const TWO_WINDOWS: &[Act] = &[
     Act::Sends(2, SMALL_BUFFERS),
     Act::Fills(2, 1, 0, 256, 128),
     Act::Maps(2, MAPS_SMALL),
@@ -300,21 +312,21 @@ const LAST: Layer = Layer {
     color: GREEN,
 };
 
-/// A subsurface is shown by a commit of its parent; two commits of it are held, and shown with the next one of its parent.
+/// Its window is mapped in grey.
+pub(crate) const GREY_WINDOW: &[Act] = &[Act::Fills(1, 1, 0, 6400, 128), Act::Maps(1, MAPS_WIDE)];
+
+/// A subsurface is shown by a commit of its parent.
 pub(crate) const SUBSURFACE: &[Act] = &[
-    Act::Connects(1),
-    Act::Sends(1, BEGINS),
-    Act::Told(1, ANNOUNCED),
-    Act::Told(1, BEGUN),
-    Act::Sends(1, WIDE_BUFFERS),
-    Act::Fills(1, 1, 0, 6400, 128),
-    Act::Maps(1, MAPS_WIDE),
     Act::Sends(1, MAKES_SUBSURFACE),
     Act::Stores(1, 2, 64, &[0, 0, 255, 0]),
     Act::Stores(1, 2, 128, &[0, 0, 255, 0]),
     Act::Stores(1, 2, 188, &[0, 255, 0, 0]),
     Act::Sends(1, SHOWS_18),
     Act::Shows(&[PARENT, CHILD]),
+];
+
+/// Two commits of it are held, and shown with the next one of its parent.
+pub(crate) const HELD: &[Act] = &[
     Act::Sends(1, HOLDS_19),
     Act::Silent(1),
     Act::Sends(1, HOLDS_20),
@@ -351,13 +363,6 @@ const NONE_FOR_14: &[Message] = &[
 
 /// A buffer that two surfaces show is released once neither does.
 pub(crate) const SHOWN_TWICE: &[Act] = &[
-    Act::Connects(1),
-    Act::Sends(1, BEGINS),
-    Act::Told(1, ANNOUNCED),
-    Act::Told(1, BEGUN),
-    Act::Sends(1, WIDE_BUFFERS),
-    Act::Fills(1, 1, 0, 6400, 128),
-    Act::Maps(1, MAPS_WIDE),
     Act::Shows(&[PARENT]),
     Act::Sends(1, SHOWS_10_TWICE),
     Act::Sends(1, ATTACHES_11),

@@ -3,8 +3,7 @@
 
 use crate::acts::{Act, Layer};
 use crate::menus::{CAPABLE, SEAT};
-use crate::recorded::{BEGINS, BEGUN, MAPS_WIDE, PARENT, WIDE_BUFFERS};
-use test_rows::begun::ANNOUNCED;
+use crate::recorded::{MAPS_WIDE, PARENT, WIDE_BUFFERS};
 use test_rows::rows::Message;
 use wl_wire::{Arg, Fixed};
 
@@ -133,23 +132,11 @@ const ENTERED_BELOW: &[Message] = &[Message(
     ],
 )];
 
-/// A window that covers a part of another's has a popup that grabs, and its client goes: then the pointer enters the other one. Where the client 1 has
-/// ended, nothing is asked for a popup. The window of the client 2 is at (0, 0) then if that of the client 1 was never mapped, and else at (32, 32).
-pub(crate) const RIVALS: &[Act] = &[
-    Act::Connects(1),
-    Act::Sends(1, BEGINS),
-    Act::Told(1, ANNOUNCED),
-    Act::Told(1, BEGUN),
-    Act::Sends(1, WIDE_BUFFERS),
-    Act::Fills(1, 1, 0, 6400, 128),
-    Act::Maps(1, MAPS_WIDE),
-    Act::Sends(1, SEAT),
-    Act::Told(1, CAPABLE),
-    Act::Shows(&[PARENT]),
-    Act::Connects(2),
-    Act::Sends(2, BEGINS),
-    Act::Told(2, ANNOUNCED),
-    Act::Told(2, BEGUN),
+/// The window of the client 1 is shown.
+pub(crate) const SHOWN: &[Act] = &[Act::Shows(&[PARENT])];
+
+/// A window of the client 2 covers a part of it, and is pressed.
+pub(crate) const RIVAL: &[Act] = &[
     Act::Sends(2, WIDE_BUFFERS),
     Act::Maps(2, MAPS_WIDE),
     Act::Sends(2, SEAT),
@@ -158,10 +145,19 @@ pub(crate) const RIVALS: &[Act] = &[
     Act::ToldAny(2, ENTERED, &[], &[]),
     Act::Presses(true),
     Act::ToldAny(2, PRESSED, &[], &[]),
+];
+
+/// It has a popup that grabs. Where the client 1 has ended, nothing is asked for a popup.
+pub(crate) const RIVAL_GRABS: &[Act] = &[
     Act::SendsBeside(2, GRABS),
     Act::ToldAny(2, PLACED, &[], &[]),
     Act::SendsBeside(2, SHOWS_POPUP),
     Act::Silent(2),
+];
+
+/// Its client goes: then the pointer enters the other window. The window of the client 2 is at (0, 0) if that of the client 1 was never mapped, and
+/// else at (32, 32).
+pub(crate) const RIVAL_GOES: &[Act] = &[
     Act::Presses(false),
     Act::ToldAny(2, RELEASED, RELEASED_ALONE, &[]),
     Act::Points(10, 10),

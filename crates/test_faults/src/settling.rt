@@ -3,8 +3,8 @@
 
 use crate::acts::{Act, Layer};
 use crate::menus::{CAPABLE, SEAT};
-use crate::recorded::{BEGINS, BEGUN, MAPS_WIDE, PARENT, WIDE_BUFFERS};
-use test_rows::begun::{ANNOUNCED, ATTACH_NONE, COMMIT};
+use crate::recorded::{MAPS_WIDE, PARENT, WIDE_BUFFERS};
+use test_rows::begun::{ATTACH_NONE, COMMIT};
 use test_rows::rows::Message;
 use wl_wire::{Arg, Fixed};
 
@@ -77,30 +77,25 @@ const ENTERED_AGAIN: Message = Message(
 
 const RELEASED_10: Message = Message(10, 0, &[]);
 
-/// The window of the client 2 is mapped above that of the client 1, where the pointer rests. The client 1 is left, and the client 2 is entered; where that one
-/// isn't mapped the client 1 isn't left, and where it can't be told it is entered again. Where the client 1 was never mapped, that of the client 2 is at the corner.
-pub(crate) const LEFT_BELOW: &[Act] = &[
-    Act::Connects(1),
-    Act::Sends(1, BEGINS),
-    Act::Told(1, ANNOUNCED),
-    Act::Told(1, BEGUN),
-    Act::Sends(1, WIDE_BUFFERS),
-    Act::Fills(1, 1, 0, 6400, 128),
-    Act::Maps(1, MAPS_WIDE),
-    Act::Sends(1, SEAT),
-    Act::Told(1, CAPABLE),
+/// The pointer rests over the window of the client 1, for which much waits.
+pub(crate) const RESTING: &[Act] = &[
     Act::Points(36, 36),
     Act::Told(1, &[ENTERED]),
     Act::Sends(1, SYNCS),
     Act::Shows(&[PARENT]),
-    Act::Connects(2),
-    Act::Sends(2, BEGINS),
-    Act::Told(2, ANNOUNCED),
-    Act::Told(2, BEGUN),
+];
+
+/// The client 2 has buffers and a wl_pointer, and its window is mapped above that of the client 1.
+pub(crate) const READY: &[Act] = &[
     Act::Sends(2, WIDE_BUFFERS),
     Act::Sends(2, SEAT),
     Act::Told(2, CAPABLE),
     Act::Maps(2, MAPS_WIDE),
+];
+
+/// The client 1 is left, and the client 2 is entered. Where that one isn't mapped the client 1 isn't left, and where it can't be told it is entered
+/// again. Where the client 1 was never mapped, the window of the client 2 is at the corner.
+pub(crate) const LEFT_BELOW: &[Act] = &[
     Act::Told(1, SEVEN),
     Act::Told(1, SEVEN),
     Act::Told(1, SEVEN),
@@ -111,27 +106,11 @@ pub(crate) const LEFT_BELOW: &[Act] = &[
     Act::Silent(2),
 ];
 
-/// The window of the client 2, above that of the client 1, is unmapped below the pointer. The client 2 is left, and the client 1 is entered.
+/// Much waits for the client 1, whose window is shown.
+pub(crate) const WAITING: &[Act] = &[Act::Sends(1, SYNCS), Act::Shows(&[PARENT])];
+
+/// The window of the client 2 is unmapped below the pointer. The client 2 is left, and the client 1 is entered.
 pub(crate) const ENTERED_ANEW: &[Act] = &[
-    Act::Connects(1),
-    Act::Sends(1, BEGINS),
-    Act::Told(1, ANNOUNCED),
-    Act::Told(1, BEGUN),
-    Act::Sends(1, WIDE_BUFFERS),
-    Act::Fills(1, 1, 0, 6400, 128),
-    Act::Maps(1, MAPS_WIDE),
-    Act::Sends(1, SEAT),
-    Act::Told(1, CAPABLE),
-    Act::Sends(1, SYNCS),
-    Act::Shows(&[PARENT]),
-    Act::Connects(2),
-    Act::Sends(2, BEGINS),
-    Act::Told(2, ANNOUNCED),
-    Act::Told(2, BEGUN),
-    Act::Sends(2, WIDE_BUFFERS),
-    Act::Sends(2, SEAT),
-    Act::Told(2, CAPABLE),
-    Act::Maps(2, MAPS_WIDE),
     Act::Points(36, 36),
     Act::ToldAny(2, &[ENTERED_ABOVE], &[ENTERED_ABOVE], &[ENTERED]),
     Act::Shows(&[PARENT, ABOVE]),
