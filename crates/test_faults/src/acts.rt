@@ -2,9 +2,9 @@
 //! session, as steps of a run, and as the stream of one of its clients.
 
 use std::alloc::Global;
-use test_rows::rows::{Message, bytes_of};
+use test_rows::asks::{Ask, bytes_of, put_ask};
+use test_rows::events::{Event, put_event};
 use wl_session::{Config, Rgb, Step};
-use wl_wire::put;
 
 pub(crate) const OUTPUT: Config = Config {
     width: 64,
@@ -37,20 +37,20 @@ pub(crate) struct Layer {
 pub(crate) enum Act<'a> {
     /// A client connects with this number.
     Connects(u32),
-    /// A client sends messages, one after another.
-    Sends(u32, &'a [Message<'a>]),
-    /// A client sends messages, by the last of which its toplevel is mapped.
-    Maps(u32, &'a [Message<'a>]),
-    /// A client sends messages, one after another, while the other client lives.
-    SendsBeside(u32, &'a [Message<'a>]),
+    /// A client asks things, one after another.
+    Sends(u32, &'a [Ask]),
+    /// A client asks things, by the last of which its toplevel is mapped.
+    Maps(u32, &'a [Ask]),
+    /// A client asks things, one after another, while the other client lives.
+    SendsBeside(u32, &'a [Ask]),
     /// Bytes are put into a store of a client, from a place on.
     Stores(u32, u32, u32, &'a [u8]),
     /// So many bytes of a client's store from a place on get this value.
     Fills(u32, u32, u32, usize, u8),
-    /// What waits for a client begins with these messages, and they are taken.
-    Told(u32, &'a [Message<'a>]),
-    /// All that waits for a client is the first of these lists of messages or, where the other client has ended, any of them. It is taken.
-    ToldAny(u32, &'a [Message<'a>], &'a [Message<'a>], &'a [Message<'a>]),
+    /// What waits for a client begins with these events, and they are taken.
+    Told(u32, &'a [Event]),
+    /// All that waits for a client is the first of these lists of events or, where the other client has ended, any of them. It is taken.
+    ToldAny(u32, &'a [Event], &'a [Event], &'a [Event]),
     /// Nothing waits for a client.
     Silent(u32),
     /// Nothing waits for a client while the other one lives.
@@ -78,9 +78,9 @@ pub(crate) struct Part {
 #[derive(Clone, Copy)]
 pub(crate) enum Planned<'a> {
     Connect(u32),
-    /// A message of a client, and whether its toplevel is mapped by it.
+    /// A request of a client, and whether its toplevel is mapped by it.
     Feed(u32, Part, bool),
-    /// A message of a client, while the other one lives.
+    /// A request of a client, while the other one lives.
     FeedBeside(u32, Part),
     Store(u32, u32, u32, Part),
     /// What a client was told is sent.
@@ -121,26 +121,25 @@ impl<'a> Plan<'a> {
         }
     }
 
-    fn put_message(&mut self, message: Message) {
-        let Message(object, opcode, args) = message;
-        if put(&mut self.bytes, object, opcode, args).is_err() {
+    fn put(&mut self, ask: Ask) {
+        if !put_ask(&mut self.bytes, ask) {
             self.failed = true;
         }
     }
 
-    fn add_messages(&mut self, client: u32, messages: &[Message], maps: bool) {
-        for (place, message) in messages.iter().enumerate() {
+    fn add_asks(&mut self, client: u32, asks: &[Ask], maps: bool) {
+        for (place, ask) in asks.iter().enumerate() {
             let from = self.bytes.len();
-            self.put_message(*message);
-            let is_last = place.saturating_add(1) == messages.len();
+            self.put(*ask);
+            let is_last = place.saturating_add(1) == asks.len();
             self.add(Planned::Feed(client, self.part_from(from), maps && is_last));
         }
     }
 
-    fn add_messages_beside(&mut self, client: u32, messages: &[Message]) {
-        for message in messages {
+    fn add_asks_beside(&mut self, client: u32, asks: &[Ask]) {
+        for ask in asks {
             let from = self.bytes.len();
-            self.put_message(*message);
+            self.put(*ask);
             self.add(Planned::FeedBeside(client, self.part_from(from)));
         }
     }
@@ -163,26 +162,22 @@ impl<'a> Plan<'a> {
         self.part_from(from)
     }
 
-    fn add_part(&mut self, messages: &[Message]) -> Part {
+    fn add_part(&mut self, events: &[Event]) -> Part {
         let from = self.bytes.len();
-        for message in messages {
-            self.put_message(*message);
+        for event in events {
+            if !put_event(&mut self.bytes, *event) {
+                self.failed = true;
+            }
         }
         self.part_from(from)
     }
 
-    fn add_told(&mut self, client: u32, messages: &[Message]) {
-        let part = self.add_part(messages);
+    fn add_told(&mut self, client: u32, events: &[Event]) {
+        let part = self.add_part(events);
         self.add(Planned::Sent(client, part));
     }
 
-    fn add_told_any(
-        &mut self,
-        client: u32,
-        first: &[Message],
-        second: &[Message],
-        third: &[Message],
-    ) {
+    fn add_told_any(&mut self, client: u32, first: &[Event], second: &[Event], third: &[Event]) {
         let first = self.add_part(first);
         let second = self.add_part(second);
         let third = self.add_part(third);
@@ -192,9 +187,9 @@ impl<'a> Plan<'a> {
     fn add_act(&mut self, act: Act<'a>) {
         match act {
             Act::Connects(client) => self.add(Planned::Connect(client)),
-            Act::Sends(client, messages) => self.add_messages(client, messages, false),
-            Act::Maps(client, messages) => self.add_messages(client, messages, true),
-            Act::SendsBeside(client, messages) => self.add_messages_beside(client, messages),
+            Act::Sends(client, asks) => self.add_asks(client, asks, false),
+            Act::Maps(client, asks) => self.add_asks(client, asks, true),
+            Act::SendsBeside(client, asks) => self.add_asks_beside(client, asks),
             Act::Stores(client, store, at, bytes) => {
                 let part = self.add_bytes(bytes);
                 self.add(Planned::Store(client, store, at, part));
@@ -203,7 +198,7 @@ impl<'a> Plan<'a> {
                 let part = self.add_copies(count, byte);
                 self.add(Planned::Store(client, store, at, part));
             }
-            Act::Told(client, messages) => self.add_told(client, messages),
+            Act::Told(client, events) => self.add_told(client, events),
             Act::ToldAny(client, first, second, third) => {
                 self.add_told_any(client, first, second, third)
             }
@@ -296,12 +291,10 @@ pub(crate) fn steps_of<'a>(alloc: Global, plan: &'a Plan) -> Option<Vec<Step<'a>
 }
 
 /// What a client sends by an act.
-fn sent_by<'a>(act: Act<'a>, client: u32) -> &'a [Message<'a>] {
+fn sent_by<'a>(act: Act<'a>, client: u32) -> &'a [Ask] {
     match act {
-        Act::Sends(sender, messages)
-        | Act::Maps(sender, messages)
-        | Act::SendsBeside(sender, messages)
-            if sender == client => { messages }
+        Act::Sends(sender, asks) | Act::Maps(sender, asks) | Act::SendsBeside(sender, asks)
+            if sender == client => { asks }
         _ => &[],
     }
 }

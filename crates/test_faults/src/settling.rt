@@ -4,29 +4,29 @@
 use crate::acts::{Act, Layer};
 use crate::menus::{CAPABLE, SEAT};
 use crate::recorded::{MAPS_WIDE, PARENT, WIDE_BUFFERS};
+use test_rows::asks::Ask;
 use test_rows::begun::{ATTACH_NONE, COMMIT};
-use test_rows::rows::Message;
-use wl_wire::{Arg, Fixed};
+use test_rows::events::Event;
 
 /// wl_display.sync with the new callback 14, by turns: so many that another event takes memory where they wait.
-const SYNC: Message = Message(1, 0, &[Arg::NewId(14)]);
+const SYNC: Ask = Ask::Sync(14);
 
-const SYNCS: &[Message] = &[
+const SYNCS: &[Ask] = &[
     SYNC, SYNC, SYNC, SYNC, SYNC, SYNC, SYNC, SYNC, SYNC, SYNC, SYNC, SYNC, SYNC, SYNC, SYNC, SYNC,
     SYNC, SYNC, SYNC, SYNC, SYNC,
 ];
 
 /// What answers seven of them.
-const SEVEN: &[Message] = &[
+const SEVEN: &[Event] = &[
     CALLED, GIVEN_BACK, CALLED, GIVEN_BACK, CALLED, GIVEN_BACK, CALLED, GIVEN_BACK, CALLED,
     GIVEN_BACK, CALLED, GIVEN_BACK, CALLED, GIVEN_BACK,
 ];
 
-const CALLED: Message = Message(14, 0, &[Arg::Uint(0)]);
+const CALLED: Event = Event::Done(14, 0);
 
-const GIVEN_BACK: Message = Message(1, 1, &[Arg::Uint(14)]);
+const GIVEN_BACK: Event = Event::DeleteId(14);
 
-const UNMAPS: &[Message] = &[ATTACH_NONE, COMMIT];
+const UNMAPS: &[Ask] = &[ATTACH_NONE, COMMIT];
 
 /// The window of the client 2, which is black.
 const ABOVE: Layer = Layer {
@@ -39,43 +39,16 @@ const ABOVE: Layer = Layer {
 };
 
 /// The pointer enters the surface 6 with the serial 2 at (36, 36), or at (4, 4).
-const ENTERED: Message = Message(
-    13,
-    0,
-    &[
-        Arg::Uint(2),
-        Arg::Object(6),
-        Arg::Fixed(Fixed(9216)),
-        Arg::Fixed(Fixed(9216)),
-    ],
-);
+const ENTERED: Event = Event::Enter(13, 2, 6, 9216, 9216);
 
-const ENTERED_ABOVE: Message = Message(
-    13,
-    0,
-    &[
-        Arg::Uint(2),
-        Arg::Object(6),
-        Arg::Fixed(Fixed(1024)),
-        Arg::Fixed(Fixed(1024)),
-    ],
-);
+const ENTERED_ABOVE: Event = Event::Enter(13, 2, 6, 1024, 1024);
 
 /// It is left with the serial 3, and entered again at (36, 36).
-const LEFT: Message = Message(13, 1, &[Arg::Uint(3), Arg::Object(6)]);
+const LEFT: Event = Event::Leave(13, 3, 6);
 
-const ENTERED_AGAIN: Message = Message(
-    13,
-    0,
-    &[
-        Arg::Uint(4),
-        Arg::Object(6),
-        Arg::Fixed(Fixed(9216)),
-        Arg::Fixed(Fixed(9216)),
-    ],
-);
+const ENTERED_AGAIN: Event = Event::Enter(13, 4, 6, 9216, 9216);
 
-const RELEASED_10: Message = Message(10, 0, &[]);
+const RELEASED_10: Event = Event::Release(10);
 
 /// The pointer rests over the window of the client 1, for which much waits.
 pub(crate) const RESTING: &[Act] = &[

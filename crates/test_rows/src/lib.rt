@@ -2,5 +2,8 @@
 //! use it.
 #![tactic(auto)]
 
+pub mod asks;
 pub mod begun;
+pub mod events;
 pub mod rows;
+mod words;
