@@ -1,6 +1,6 @@
-//! Streams of a client whose popup grabs by the serial of a press, broken in each way, with what
-//! the pointer does between what it sends: what a client below
-//! keeps that has a pointer too.
+//! Streams of a client whose popup grabs by the serial of a press, broken in each way. The pointer
+//! moves and presses between what it sends. Tested is what a client below keeps that has a pointer
+//! too.
 
 use crate::acts::{Act, OUTPUT, stream_of};
 use crate::broken::{WORDS, begin, is_answered, set_word, word_at};

@@ -1,7 +1,6 @@
 //! All that public calls tell of the client 1, which has a window of 40 by 40 pixels and half a
-//! message: its stores, what waits for it and the frame, and the
-//! same again once it sent the rest and asked for more. So its objects, serials and buffers are
-//! compared too.
+//! message. These are its stores, what waits for it and the frame. It is told again once it sent
+//! the rest and asked for more. So its objects, serials and buffers are compared too.
 
 use std::alloc::Global;
 use test_rows::asks::{Ask, bytes_of};

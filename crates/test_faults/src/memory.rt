@@ -88,9 +88,8 @@ fn is_stop(outcome: Outcome, stops: &mut Stops) -> bool {
 }
 
 /// A session that finds no memory isn't made. A run stops at the connect or at the tick that finds
-/// none, with the steps
-/// before it taken: the client isn't there yet, or is there, and where there was none for its
-/// message, has ended for it.
+/// none, with the steps before it taken. The client isn't there yet, or is there. If there was none
+/// for its message, it has ended for it.
 #[test]
 fn a_run_stops_where_memory_is_refused(rt: HostRuntime) {
     let mut stops = Stops {
@@ -335,9 +334,8 @@ fn a_registry_finds_no_memory(rt: HostRuntime) {
     assert_eq!(rt; size, None);
 }
 
-/// The registry 2, the wl_compositor 3 and the wl_shm 4; the region 5, to which a rectangle is
-/// added; and the pool 6 of 64 bytes with the
-/// buffer 7, which then grows to 128.
+/// The registry 2, the wl_compositor 3 and the wl_shm 4. The region 5, to which a rectangle is
+/// added. The pool 6 of 64 bytes with the buffer 7; it grows to 128 then.
 const REGION_AND_POOL: &[Ask] = &[
     Ask::GetRegistry(2),
     Ask::Bind(2, 1, Interface::Compositor, 2, 3),

@@ -1,6 +1,5 @@
-//! Worked sessions with a popup as acts: it is placed and shown, goes along with its parent, and is
-//! dismissed with it; or it grabs, and is dismissed by a
-//! press.
+//! Worked sessions with a popup as acts. It is placed and shown, goes along with its parent, and is
+//! dismissed with it. Or it grabs, and is dismissed by a press.
 
 use crate::acts::{Act, Layer};
 use crate::recorded::PARENT;

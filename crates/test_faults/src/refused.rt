@@ -1,6 +1,6 @@
-//! Each allocation of worked sessions refused in turn, with all after it or alone: a session isn't
-//! made, a client doesn't connect or ends as out of memory, or
-//! nothing is struck; and each frame shows the windows of the clients that are left.
+//! Each allocation of worked sessions refused in turn, with all after it or alone. A session isn't
+//! made, a client doesn't connect or ends as out of memory, or nothing is struck. Each frame shows
+//! the windows of the clients that are left.
 
 use crate::acts::{Layer, OUTPUT, Part, Places, Plan, Planned, is_painted, plan_of_parts};
 use crate::scenes::{Scene, parts_of};
@@ -13,9 +13,8 @@ pub(crate) const MANY: u64 = 2000;
 
 pub(crate) const NO_MEMORY: Fed = Fed::Ended(Cause::Memory);
 
-/// How far a session came: the clients that live, where their toplevels stand, how many were
-/// mapped, how many ended by what another one sent, and what the
-/// last frame showed.
+/// How far a session came: the clients that live, where their toplevels stand, and how many were
+/// mapped. Also how many ended by what another one sent, and what the last frame showed.
 #[derive(Clone, Copy)]
 struct Progress<'a> {
     lives: [bool; 2],

@@ -1,6 +1,5 @@
-//! Two clients with windows, of which the upper one has a popup that grabs by the serial of a
-//! press, and goes: the acts of both, and the pointer's between
-//! them.
+//! Two clients with windows. The upper one has a popup that grabs by the serial of a press, and
+//! goes. Here are the acts of both, and the pointer's between them.
 
 use crate::acts::{Act, Layer};
 use crate::menus::{CAPABLE, SEAT};

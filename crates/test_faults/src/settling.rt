@@ -1,6 +1,5 @@
-//! The pointer rests where the windows of two clients overlap, and what one of them sends brings
-//! its own on top or takes it away: who can't be told so
-//! ends, and the other lives on.
+//! The pointer rests where the windows of two clients overlap. What one of them sends brings its
+//! own on top or takes it away. Who can't be told so ends, and the other lives on.
 
 use crate::acts::{Act, Layer};
 use crate::menus::{CAPABLE, SEAT};

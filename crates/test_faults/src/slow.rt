@@ -1,6 +1,6 @@
 //! The pointer rests where the windows of two clients overlap, and that of the client 2 comes or
-//! goes: the client 1, for which too much waits to be told so,
-//! ends, its window is to be painted over, and the client 2 is told what it should be.
+//! goes. For the client 1 too much waits to be told so: it ends, and its window is to be painted
+//! over. The client 2 is told what it should be.
 
 use test_rows::asks::{Ask, Interface};
 use test_rows::begun::{

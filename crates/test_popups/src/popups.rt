@@ -27,9 +27,9 @@ pub(crate) const POPUP_SHOWS: &[Row] = &[
     Row::Paints(0, 0),
 ];
 
-/// The corner of the toplevel's window geometry moves, and the popup goes along: its tree is
-/// painted again where it was and where it is, and the
-/// toplevel isn't (xdg-shell.xml, xdg_positioner.set_anchor_rect, which is relative to that).
+/// The corner of the toplevel's window geometry moves, and the popup goes along. Its tree is
+/// painted again where it was and where it is, and the toplevel isn't. The anchor rectangle is
+/// relative to that geometry (xdg-shell.xml, xdg_positioner.set_anchor_rect).
 const GEOMETRY_MOVES: &[Row] = &[
     Row::Sends(Ask::SetWindowGeometry(7, 4, 4, 32, 32)),
     Row::Paints(0, 0),
@@ -87,9 +87,9 @@ const POPUP_UNMAPS: &[Row] = &[
     Row::Shows(64, 64, &[Pixel(40, 40, 255, 0, 0)]),
 ];
 
-/// With the toplevel its popup is unmapped and comes back, beside the place of the toplevel's next
-/// mapping, which is 32 pixels farther to the
-/// right and down: of the toplevel 32 by 32 points are in the output, and none of the popup.
+/// With the toplevel its popup is unmapped and comes back. The toplevel's next mapping is 32 pixels
+/// farther to the right and down, and the popup is beside it. Of the toplevel 32 by 32 points are
+/// in the output, and none of the popup.
 const TOPLEVEL_UNMAPS: &[Row] = &[
     Row::Sends(ATTACH_NONE),
     Row::Accepts(COMMIT, &[Event::Release(10)]),
@@ -120,9 +120,8 @@ const CLIENT_GOES: &[Row] = &[
     Row::Shows(1664, 1664, &[Pixel(0, 0, 0, 0, 0), Pixel(40, 40, 0, 0, 0)]),
 ];
 
-/// A commit before the popup was configured places it once: a change of the positioner afterwards
-/// has no effect, nor does its end, since the popup
-/// has a copy of it.
+/// A commit before the popup was configured places it once. A change of the positioner afterwards
+/// has no effect, nor does its end, since the popup has a copy of it.
 const POSITIONER_CHANGES: &[Row] = &[
     Row::Sends(Ask::SetOffset(16, -8, -8)),
     Row::Accepts(Ask::PositionerDestroy(16), &[Event::DeleteId(16)]),

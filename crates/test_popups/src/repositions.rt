@@ -397,8 +397,8 @@ const SIZE_OF_DISMISSED: &[Row] = &[
 ];
 
 /// A commit of one that was dismissed puts no place in force: its own popups are placed by where it
-/// stood. At (40, 40) there are 24 pixels to the right
-/// of it, so a popup of 4 by 4 that is to stand 22 to the right slides back by 2.
+/// stood. At (40, 40) there are 24 pixels to the right of it. So a popup of 4 by 4 that is to stand
+/// 22 to the right slides back by 2.
 const STOOD: &[Row] = &[
     Row::Sends(COMMIT_14),
     Row::Sends(Ask::SetConstraintAdjustment(21, 1)),
@@ -579,9 +579,8 @@ const SUBMENU: &[Row] = &[
     ),
 ];
 
-/// As its parent is placed anew a submenu goes along: their two windows are painted where they were
-/// and where they are, of which 16 points are the same,
-/// and no others.
+/// As its parent is placed anew a submenu goes along. Their two windows are painted where they were
+/// and where they are, and no other points. 16 of these points are the same.
 const BOTH_MOVE: &[Row] = &[
     Row::Sends(OFFSET_8),
     Row::Accepts(

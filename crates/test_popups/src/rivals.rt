@@ -142,9 +142,8 @@ const DISMISSED_BY_NOTHING: &[Row] = &[
     ),
 ];
 
-/// The pointer goes over the popup, (2, 2) of it, and the client 2 goes: the pointer enters the
-/// toplevel of the client 1 there, and the windows of the
-/// other are painted over.
+/// The pointer goes over the popup, (2, 2) of it, and the client 2 goes. The pointer enters the
+/// toplevel of the client 1 there, and the windows of the other are painted over.
 const SECOND_GOES: &[Row] = &[
     Row::Calls(
         Step::Motion {

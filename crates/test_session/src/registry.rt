@@ -87,9 +87,9 @@ const OBJECTS_AND_OPCODES: &[Row] = &[
     Row::Errs(Ask::Other(6, 0, 0, [0; 4]), 1, 1),
 ];
 
-/// Arguments, and the objects that they name, go before a new id that is in use: no argument, a
-/// null text, objects that aren't
-/// there, an object of another interface, and a null object.
+/// Arguments, and the objects that they name, go before a new id that is in use. Tried are no
+/// argument, a null text, objects that aren't there, an object of another interface, and a null
+/// object.
 const ARGUMENTS: &[Row] = &[
     Row::Errs(Ask::Other(1, 1, 0, [0; 4]), 1, 1),
     Row::Errs(Ask::Other(2, 0, 4, [1, 0, 1, 2]), 1, 1),

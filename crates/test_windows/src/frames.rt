@@ -282,9 +282,8 @@ pub(crate) const SHOWS_THREE_RED: &[Row] = &[Row::Shows(
     ],
 )];
 
-/// The client 2 shows a buffer 10 of 8 by 8 pixels of argb8888 that lets all through, at (32, 32);
-/// then a region that would call all of it opaque
-/// waits for a commit, which doesn't come.
+/// The client 2 shows a buffer 10 of 8 by 8 pixels of argb8888 that lets all through, at (32, 32).
+/// Then a region that would call all of it opaque waits for a commit, which doesn't come.
 const CLEAR_SQUARE: &[Row] = &[
     Row::From(2, Ask::CreateBuffer(9, 10, 0, 8, 8, 32, 0)),
     Row::From(2, Ask::Attach(6, 10)),

@@ -78,9 +78,8 @@ const CONFIGURED_AGAIN: &[Row] = &[
     ]),
 ];
 
-/// A client to which the release can't be told ends: the window that the commit moved by 3 pixels
-/// is painted again where it was and where it was
-/// then, 43 by 40 points, and no more.
+/// A client to which the release can't be told ends. The commit had moved the window by 3 pixels.
+/// It is painted again where it was and where it was then, 43 by 40 points, and no more.
 const TOO_SLOW: &[Row] = &[
     Row::Paints(1600, 1600),
     Row::Changes(87_381, Ask::CreateRegion(3, 16), Ask::RegionDestroy(16)),

@@ -18,9 +18,8 @@ const BUFFER_20: Ask = Ask::CreateBuffer(17, 20, 128, 4, 4, 16, 1);
 /// wl_surface.commit of the subsurface's surface 14.
 pub(crate) const COMMIT_14: Ask = Ask::Commit(14);
 
-/// wl_surface.attach of the surface 14: the black buffer 18, the buffer 19 whose first pixel is
-/// red, or the buffer 20 whose first pixel is
-/// red and whose last is green.
+/// wl_surface.attach of the surface 14. The buffer 18 is black, the first pixel of the buffer 19 is
+/// red. Of the buffer 20 the first pixel is red and the last is green.
 const ATTACH_18: Ask = Ask::Attach(14, 18);
 
 const ATTACH_19: Ask = Ask::Attach(14, 19);
