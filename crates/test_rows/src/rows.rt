@@ -464,15 +464,17 @@ fn is_met(alloc: Global, session: &mut Session<Global>, row: &Row) -> bool {
         Row::Takes => take_all(session),
         Row::TakesOf(client) => take_all_of(session, client),
         Row::Fills(client, store, at, count, pixel) => {
-            fill(session, &Place { client, store, at }, count, &pixel)
+            let [b, g, r, a] = pixel;
+            fill(session, &Place { client, store, at }, count, &[b, g, r, a])
         }
         Row::Spoils(client, at, pixel, span) => {
+            let [b, g, r, a] = pixel;
             let place = Place {
                 client,
                 store: 1,
                 at,
             };
-            spoil(alloc, session, &place, &pixel, span)
+            spoil(alloc, session, &place, &[b, g, r, a], span)
         }
         Row::Shows(least, most, pixels) => shows(session, least, most, pixels),
         Row::Paints(least, most) => shows(session, least, most, &[]),
