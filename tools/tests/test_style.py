@@ -13,14 +13,6 @@ PARAGRAPH = 5  # sentences at most, besides a question or a name in bold at its 
 LINE = 100  # columns at most
 DOCS = 28_000  # words of docs/ at most
 HEAVY = re.compile(r"\b(that which|so that of|as far as|such that)\b", re.IGNORECASE)
-# Crates, and files of crates, whose comments aren't rewritten yet.
-UNWRITTEN_SOURCES = {
-    "test_faults",
-    "test_popups",
-    "test_session",
-    "test_support",
-    "test_windows",
-}
 # Pages whose tables are looked up and not read: their words don't count.
 LOOKED_UP = {"docs/CLAUSES.md", "docs/DEFINITIONS.md", "docs/PROTOCOL.md"}
 COMMENT = re.compile(r"\s*//[/!]?(?: (.*))?$")
@@ -101,10 +93,6 @@ def sources():
     return {path.relative_to(TOP / "crates").as_posix(): path.read_text(encoding="utf-8") for path in paths}
 
 
-def is_written(name):
-    return not {name, name.partition("/")[0]} & UNWRITTEN_SOURCES
-
-
 def is_product(name):
     return not name.startswith(("bench_", "test_"))
 
@@ -128,13 +116,8 @@ class Style(unittest.TestCase):
 
     def test_comments(self):
         for name, text in sources().items():
-            if is_written(name):
-                with self.subTest(name):
-                    self.assertEqual([], faults_of_source(text), f"crates/{name}: short sentences, short lines")
-
-    def test_sources_that_are_not_rewritten_are_there(self):
-        names = {it for name in sources() for it in (name, name.partition("/")[0])}
-        self.assertEqual(set(), UNWRITTEN_SOURCES - names, "crates and files that are gone are off the list")
+            with self.subTest(name):
+                self.assertEqual([], faults_of_source(text), f"crates/{name}: short sentences, short lines")
 
     def test_root_files_say_where_to_begin(self):
         for name, text in sources().items():

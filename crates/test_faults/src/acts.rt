@@ -1,10 +1,11 @@
-//! Sessions of clients with windows, as lists of acts: what clients do, what they are told, and what is shown. The same list is taken by the calls of a
+//! Sessions of clients with windows, as lists of acts: what clients do, what they are told, and
+//! what is shown. The same list is taken by the calls of a
 //! session, as steps of a run, and as the stream of one of its clients.
 
 use std::alloc::Global;
-use test_rows::rows::{Message, bytes_of};
+use test_rows::asks::{Ask, bytes_of, put_ask};
+use test_rows::events::{Event, put_event};
 use wl_session::{Config, Rgb, Step};
-use wl_wire::put;
 
 pub(crate) const OUTPUT: Config = Config {
     width: 64,
@@ -21,7 +22,8 @@ pub(crate) type Color = [u8; 3];
 
 pub(crate) const BACKGROUND: Color = [10, 20, 30];
 
-/// Points of one colour of a client's window: the first column and row in its toplevel, whose corner may be to the right and below, and the sides.
+/// Points of one colour of a client's window: the first column and row in its toplevel, whose
+/// corner may be to the right and below, and the sides.
 #[derive(Clone, Copy)]
 pub(crate) struct Layer {
     pub client: u32,
@@ -37,20 +39,21 @@ pub(crate) struct Layer {
 pub(crate) enum Act<'a> {
     /// A client connects with this number.
     Connects(u32),
-    /// A client sends messages, one after another.
-    Sends(u32, &'a [Message<'a>]),
-    /// A client sends messages, by the last of which its toplevel is mapped.
-    Maps(u32, &'a [Message<'a>]),
-    /// A client sends messages, one after another, while the other client lives.
-    SendsBeside(u32, &'a [Message<'a>]),
+    /// A client asks things, one after another.
+    Sends(u32, &'a [Ask]),
+    /// A client asks things, by the last of which its toplevel is mapped.
+    Maps(u32, &'a [Ask]),
+    /// A client asks things, one after another, while the other client lives.
+    SendsBeside(u32, &'a [Ask]),
     /// Bytes are put into a store of a client, from a place on.
     Stores(u32, u32, u32, &'a [u8]),
     /// So many bytes of a client's store from a place on get this value.
     Fills(u32, u32, u32, usize, u8),
-    /// What waits for a client begins with these messages, and they are taken.
-    Told(u32, &'a [Message<'a>]),
-    /// All that waits for a client is the first of these lists of messages or, where the other client has ended, any of them. It is taken.
-    ToldAny(u32, &'a [Message<'a>], &'a [Message<'a>], &'a [Message<'a>]),
+    /// What waits for a client begins with these events, and they are taken.
+    Told(u32, &'a [Event]),
+    /// All that waits for a client is the first of these lists of events or, where the other client
+    /// has ended, any of them. It is taken.
+    ToldAny(u32, &'a [Event], &'a [Event], &'a [Event]),
     /// Nothing waits for a client.
     Silent(u32),
     /// Nothing waits for a client while the other one lives.
@@ -61,7 +64,8 @@ pub(crate) enum Act<'a> {
     Points(i32, i32),
     /// The left button is pressed, or released.
     Presses(bool),
-    /// A tick, and what is shown from bottom to top. The windows of clients that ended are left out.
+    /// A tick, and what is shown from bottom to top. The windows of clients that ended are left
+    /// out.
     Shows(&'a [Layer]),
     /// The same where both clients live, and what is shown where one doesn't.
     ShowsEither(&'a [Layer], &'a [Layer]),
@@ -78,9 +82,9 @@ pub(crate) struct Part {
 #[derive(Clone, Copy)]
 pub(crate) enum Planned<'a> {
     Connect(u32),
-    /// A message of a client, and whether its toplevel is mapped by it.
+    /// A request of a client, and whether its toplevel is mapped by it.
     Feed(u32, Part, bool),
-    /// A message of a client, while the other one lives.
+    /// A request of a client, while the other one lives.
     FeedBeside(u32, Part),
     Store(u32, u32, u32, Part),
     /// What a client was told is sent.
@@ -121,26 +125,25 @@ impl<'a> Plan<'a> {
         }
     }
 
-    fn put_message(&mut self, message: Message) {
-        let Message(object, opcode, args) = message;
-        if put(&mut self.bytes, object, opcode, args).is_err() {
+    fn put(&mut self, ask: Ask) {
+        if !put_ask(&mut self.bytes, ask) {
             self.failed = true;
         }
     }
 
-    fn add_messages(&mut self, client: u32, messages: &[Message], maps: bool) {
-        for (place, message) in messages.iter().enumerate() {
+    fn add_asks(&mut self, client: u32, asks: &[Ask], maps: bool) {
+        for (place, ask) in asks.iter().enumerate() {
             let from = self.bytes.len();
-            self.put_message(*message);
-            let is_last = place.saturating_add(1) == messages.len();
+            self.put(*ask);
+            let is_last = place.saturating_add(1) == asks.len();
             self.add(Planned::Feed(client, self.part_from(from), maps && is_last));
         }
     }
 
-    fn add_messages_beside(&mut self, client: u32, messages: &[Message]) {
-        for message in messages {
+    fn add_asks_beside(&mut self, client: u32, asks: &[Ask]) {
+        for ask in asks {
             let from = self.bytes.len();
-            self.put_message(*message);
+            self.put(*ask);
             self.add(Planned::FeedBeside(client, self.part_from(from)));
         }
     }
@@ -163,26 +166,22 @@ impl<'a> Plan<'a> {
         self.part_from(from)
     }
 
-    fn add_part(&mut self, messages: &[Message]) -> Part {
+    fn add_part(&mut self, events: &[Event]) -> Part {
         let from = self.bytes.len();
-        for message in messages {
-            self.put_message(*message);
+        for event in events {
+            if !put_event(&mut self.bytes, *event) {
+                self.failed = true;
+            }
         }
         self.part_from(from)
     }
 
-    fn add_told(&mut self, client: u32, messages: &[Message]) {
-        let part = self.add_part(messages);
+    fn add_told(&mut self, client: u32, events: &[Event]) {
+        let part = self.add_part(events);
         self.add(Planned::Sent(client, part));
     }
 
-    fn add_told_any(
-        &mut self,
-        client: u32,
-        first: &[Message],
-        second: &[Message],
-        third: &[Message],
-    ) {
+    fn add_told_any(&mut self, client: u32, first: &[Event], second: &[Event], third: &[Event]) {
         let first = self.add_part(first);
         let second = self.add_part(second);
         let third = self.add_part(third);
@@ -192,9 +191,9 @@ impl<'a> Plan<'a> {
     fn add_act(&mut self, act: Act<'a>) {
         match act {
             Act::Connects(client) => self.add(Planned::Connect(client)),
-            Act::Sends(client, messages) => self.add_messages(client, messages, false),
-            Act::Maps(client, messages) => self.add_messages(client, messages, true),
-            Act::SendsBeside(client, messages) => self.add_messages_beside(client, messages),
+            Act::Sends(client, asks) => self.add_asks(client, asks, false),
+            Act::Maps(client, asks) => self.add_asks(client, asks, true),
+            Act::SendsBeside(client, asks) => self.add_asks_beside(client, asks),
             Act::Stores(client, store, at, bytes) => {
                 let part = self.add_bytes(bytes);
                 self.add(Planned::Store(client, store, at, part));
@@ -203,7 +202,7 @@ impl<'a> Plan<'a> {
                 let part = self.add_copies(count, byte);
                 self.add(Planned::Store(client, store, at, part));
             }
-            Act::Told(client, messages) => self.add_told(client, messages),
+            Act::Told(client, events) => self.add_told(client, events),
             Act::ToldAny(client, first, second, third) => {
                 self.add_told_any(client, first, second, third)
             }
@@ -216,17 +215,34 @@ impl<'a> Plan<'a> {
             Act::ShowsEither(both, one) => self.add(Planned::TickEither(both, one)),
         }
     }
+
+    fn add_acts(&mut self, acts: &'a [Act<'a>]) {
+        for act in acts {
+            self.add_act(*act);
+        }
+    }
+}
+
+fn begun<'a>(alloc: Global) -> Plan<'a> {
+    Plan {
+        steps: Vec::new(alloc),
+        bytes: Vec::new(alloc),
+        failed: false,
+    }
 }
 
 /// The steps of some acts. None where there is no memory for them.
 pub(crate) fn plan_of<'a>(alloc: Global, acts: &'a [Act<'a>]) -> Option<Plan<'a>> {
-    let mut plan = Plan {
-        steps: Vec::new(alloc),
-        bytes: Vec::new(alloc),
-        failed: false,
-    };
-    for act in acts {
-        plan.add_act(*act);
+    let mut plan = begun(alloc);
+    plan.add_acts(acts);
+    if plan.failed { None } else { Some(plan) }
+}
+
+/// The steps of acts that come part by part.
+pub(crate) fn plan_of_parts<'a>(alloc: Global, parts: &[&'a [Act<'a>]]) -> Option<Plan<'a>> {
+    let mut plan = begun(alloc);
+    for acts in parts {
+        plan.add_acts(acts);
     }
     if plan.failed { None } else { Some(plan) }
 }
@@ -279,29 +295,41 @@ pub(crate) fn steps_of<'a>(alloc: Global, plan: &'a Plan) -> Option<Vec<Step<'a>
 }
 
 /// What a client sends by an act.
-fn sent_by<'a>(act: Act<'a>, client: u32) -> &'a [Message<'a>] {
+fn sent_by<'a>(act: Act<'a>, client: u32) -> &'a [Ask] {
     match act {
-        Act::Sends(sender, messages)
-        | Act::Maps(sender, messages)
-        | Act::SendsBeside(sender, messages)
-            if sender == client => { messages }
+        Act::Sends(sender, asks) | Act::Maps(sender, asks) | Act::SendsBeside(sender, asks)
+            if sender == client => { asks }
         _ => &[],
     }
 }
 
-/// All that a client sends. None where there is no memory for it.
-pub(crate) fn stream_of(alloc: Global, acts: &[Act], client: u32) -> Option<Vec<u8, Global>> {
-    let mut stream = Vec::new(alloc);
+/// Adds to a stream what a client sends. None where there is no memory for it.
+fn add_stream(
+    alloc: Global,
+    stream: &mut Vec<u8, Global>,
+    acts: &[Act],
+    client: u32,
+) -> Option<()> {
     for act in acts {
         let bytes = bytes_of(alloc, sent_by(*act, client))?;
         if stream.extend_from_slice(&bytes).is_err() {
             return None;
         }
     }
+    Some(())
+}
+
+/// All that a client sends, part by part. None where there is no memory for it.
+pub(crate) fn stream_of(alloc: Global, parts: &[&[Act]], client: u32) -> Option<Vec<u8, Global>> {
+    let mut stream = Vec::new(alloc);
+    for acts in parts {
+        add_stream(alloc, &mut stream, acts, client)?;
+    }
     Some(stream)
 }
 
-/// Where the toplevels of the clients 1 and 2 stand, as far to the right as down. None of one that isn't shown.
+/// Where the toplevels of the clients 1 and 2 stand, as far to the right as down. None of one that
+/// isn't shown.
 pub(crate) type Places = [Option<usize>; 2];
 
 /// Where a client's toplevel stands.

@@ -1,9 +1,10 @@
-//! Streams that break off, come byte by byte, or have a word replaced, beside a client that has a window: what that one keeps.
+//! Streams that break off, come byte by byte, or have a word replaced, beside a client that has a
+//! window: what that one keeps.
 
 use crate::acts::{Act, Layer, OUTPUT, is_painted, plan_of, step_of, stream_of};
 use crate::known::{Known, begins_message, has_stores, is_known, known_of};
-use crate::menus::{GRAB, MENU};
-use crate::recorded::{BEGINS, MAPS_WIDE, SUBSURFACE, TWO_WINDOWS, WIDE_BUFFERS};
+use crate::recorded::{BEGINS, MAPS_WIDE, WIDE_BUFFERS};
+use crate::scenes::{Scene, parts_of};
 use std::alloc::Global;
 use wl_session::{Cause, Fed, Session};
 
@@ -37,6 +38,10 @@ pub(crate) fn begin(alloc: Global, session: &mut Session<Global>, acts: &[Act]) 
         session.step(&step_of(&plan, *planned));
     }
     begins_message(session)
+}
+
+fn begin_staying(alloc: Global, session: &mut Session<Global>) -> bool {
+    begin(alloc, session, STAYS)
 }
 
 /// What the client 1 keeps: what waits for it, and each frame without another client.
@@ -145,7 +150,8 @@ pub(crate) fn word_at(stream: &[u8], at: usize) -> u32 {
     }
 }
 
-/// Replaces one word by each of the others in turn. The one with which the client 1 didn't keep all.
+/// Replaces one word by each of the others in turn. The one with which the client 1 didn't keep
+/// all.
 fn first_word(
     session: &mut Session<Global>,
     stream: &mut [u8],
@@ -232,7 +238,7 @@ fn break_beside(
     session: &mut Session<Global>,
     stream: &mut [u8],
 ) -> Result<(), Wrong> {
-    if !begin(alloc, session, STAYS) {
+    if !begin_staying(alloc, session) {
         return Err(Wrong::NotBegun);
     }
     match (alone(alloc, session), waiting(alloc, session)) {
@@ -250,7 +256,7 @@ fn known_alone(alloc: Global) -> Option<Known> {
 }
 
 fn known_begun(alloc: Global, session: &mut Session<Global>) -> Option<Known> {
-    if begin(alloc, session, STAYS) {
+    if begin_staying(alloc, session) {
         known_of(alloc, session)
     } else {
         None
@@ -269,9 +275,15 @@ fn break_known(
     }
 }
 
-/// Breaks the stream of a client of these acts in each way, always beside the client 1.
-fn broken(alloc: Global, acts: &[Act], client: u32) -> Result<(), Wrong> {
-    match (Session::new(alloc, OUTPUT), stream_of(alloc, acts, client)) {
+/// All that a client of a worked session sends.
+fn stream_in(alloc: Global, scene: Scene, client: u32) -> Option<Vec<u8, Global>> {
+    let parts = parts_of(alloc, scene)?;
+    stream_of(alloc, &parts, client)
+}
+
+/// Breaks the stream of a client of a worked session in each way, always beside the client 1.
+fn broken(alloc: Global, scene: Scene, client: u32) -> Result<(), Wrong> {
+    match (Session::new(alloc, OUTPUT), stream_in(alloc, scene, client)) {
         (Ok(mut session), Some(mut stream)) => break_known(alloc, &mut session, &mut stream),
         _ => Err(Wrong::NotBegun),
     }
@@ -279,28 +291,28 @@ fn broken(alloc: Global, acts: &[Act], client: u32) -> Result<(), Wrong> {
 
 #[test]
 fn broken_streams_of_a_window_below_another(rt: HostRuntime) {
-    assert_eq!(rt; broken(rt.alloc(), TWO_WINDOWS, 1), Ok(()));
+    assert_eq!(rt; broken(rt.alloc(), Scene::TwoWindows, 1), Ok(()));
 }
 
 #[test]
 fn broken_streams_of_a_window_above_another(rt: HostRuntime) {
-    assert_eq!(rt; broken(rt.alloc(), TWO_WINDOWS, 2), Ok(()));
+    assert_eq!(rt; broken(rt.alloc(), Scene::TwoWindows, 2), Ok(()));
 }
 
 #[test]
 fn broken_streams_with_a_subsurface(rt: HostRuntime) {
-    assert_eq!(rt; broken(rt.alloc(), SUBSURFACE, 1), Ok(()));
+    assert_eq!(rt; broken(rt.alloc(), Scene::Subsurface, 1), Ok(()));
 }
 
 #[test]
 fn broken_streams_with_a_popup(rt: HostRuntime) {
-    assert_eq!(rt; broken(rt.alloc(), MENU, 1), Ok(()));
+    assert_eq!(rt; broken(rt.alloc(), Scene::Menu, 1), Ok(()));
 }
 
 /// Nobody pressed a button here, so the grab is refused.
 #[test]
 fn broken_streams_with_a_grab(rt: HostRuntime) {
-    assert_eq!(rt; broken(rt.alloc(), GRAB, 1), Ok(()));
+    assert_eq!(rt; broken(rt.alloc(), Scene::Grab, 1), Ok(()));
 }
 
 /// Whether the client 2 lives after each byte of a stream.
@@ -331,8 +343,8 @@ fn drips_as_sent(
     other: &mut Session<Global>,
     stream: &[u8],
 ) -> bool {
-    begin(alloc, one, STAYS)
-        && begin(alloc, other, STAYS)
+    begin_staying(alloc, one)
+        && begin_staying(alloc, other)
         && one.connect() == Ok(2)
         && other.connect() == Ok(2)
         && one.feed(2, stream) == Fed::Alive
@@ -340,9 +352,9 @@ fn drips_as_sent(
         && are_same(one, other)
 }
 
-/// Whether it is the same how the stream of a client of these acts comes.
-fn dripped(alloc: Global, acts: &[Act], client: u32) -> bool {
-    let Some(stream) = stream_of(alloc, acts, client) else {
+/// Whether it is the same how the stream of a client of a worked session comes.
+fn dripped(alloc: Global, scene: Scene, client: u32) -> bool {
+    let Some(stream) = stream_in(alloc, scene, client) else {
         return false;
     };
     match (Session::new(alloc, OUTPUT), Session::new(alloc, OUTPUT)) {
@@ -351,15 +363,26 @@ fn dripped(alloc: Global, acts: &[Act], client: u32) -> bool {
     }
 }
 
-fn are_dripped(alloc: Global) -> bool {
-    dripped(alloc, TWO_WINDOWS, 1)
-        && dripped(alloc, TWO_WINDOWS, 2)
-        && dripped(alloc, SUBSURFACE, 1)
-        && dripped(alloc, MENU, 1)
-        && dripped(alloc, GRAB, 1)
+/// The streams that come byte by byte: of a client of a worked session.
+const STREAMS: &[(Scene, u32)] = &[
+    (Scene::TwoWindows, 1),
+    (Scene::TwoWindows, 2),
+    (Scene::Subsurface, 1),
+    (Scene::Menu, 1),
+    (Scene::Grab, 1),
+];
+
+/// The first stream for which it isn't.
+fn first_dripped_otherwise(alloc: Global, streams: &[(Scene, u32)]) -> Option<usize> {
+    for (place, &(scene, client)) in streams.iter().enumerate() {
+        if !dripped(alloc, scene, client) {
+            return Some(place);
+        }
+    }
+    None
 }
 
 #[test]
 fn streams_come_byte_by_byte(rt: HostRuntime) {
-    assert!(rt; are_dripped(rt.alloc()));
+    assert_eq!(rt; first_dripped_otherwise(rt.alloc(), STREAMS), None);
 }

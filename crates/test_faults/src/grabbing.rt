@@ -1,5 +1,6 @@
-//! Streams of a client whose popup grabs by the serial of a press, broken in each way, with what the pointer does between what it sends: what a client below
-//! keeps that has a pointer too.
+//! Streams of a client whose popup grabs by the serial of a press, broken in each way. The pointer
+//! moves and presses between what it sends. Tested is what a client below keeps that has a pointer
+//! too.
 
 use crate::acts::{Act, OUTPUT, stream_of};
 use crate::broken::{WORDS, begin, is_answered, set_word, word_at};
@@ -10,7 +11,8 @@ use crate::rivals::{GRABS, SHOWS_POPUP};
 use std::alloc::Global;
 use wl_session::{Fed, Session};
 
-/// The client 1 shows a window of 40 by 40 grey points at (0, 0), has a pointer, and doesn't take what it is told.
+/// The client 1 shows a window of 40 by 40 grey points at (0, 0), has a pointer, and doesn't take
+/// what it is told.
 const STAYS: &[Act] = &[
     Act::Connects(1),
     Act::Sends(1, BEGINS),
@@ -20,7 +22,7 @@ const STAYS: &[Act] = &[
     Act::Sends(1, SEAT),
 ];
 
-/// What the client 2 sends before the button is pressed, and all that it sends.
+/// What the client 2 sends before the button is pressed, and after that.
 const BEFORE: &[Act] = &[
     Act::Sends(2, BEGINS),
     Act::Sends(2, WIDE_BUFFERS),
@@ -28,14 +30,11 @@ const BEFORE: &[Act] = &[
     Act::Sends(2, SEAT),
 ];
 
-const SENT: &[Act] = &[
-    Act::Sends(2, BEGINS),
-    Act::Sends(2, WIDE_BUFFERS),
-    Act::Maps(2, MAPS_WIDE),
-    Act::Sends(2, SEAT),
-    Act::Sends(2, GRABS),
-    Act::Sends(2, SHOWS_POPUP),
-];
+const AFTER: &[Act] = &[Act::Sends(2, GRABS), Act::Sends(2, SHOWS_POPUP)];
+
+fn begin_staying(alloc: Global, session: &mut Session<Global>) -> bool {
+    begin(alloc, session, STAYS)
+}
 
 /// The button is pressed over the window of the client 2 alone.
 fn press(session: &mut Session<Global>) {
@@ -49,7 +48,8 @@ fn release(session: &mut Session<Global>) {
     session.motion(4, 10, 10);
 }
 
-/// The client 2 sends the first part of a stream before the press, and the rest before the release: how it is then.
+/// The client 2 sends the first part of a stream before the press, and the rest before the release:
+/// how it is then.
 fn send(session: &mut Session<Global>, stream: &[u8], split: usize) -> Fed {
     let (first, rest) = stream.split_at(split.min(stream.len()));
     session.feed(2, first);
@@ -77,7 +77,7 @@ fn plays(session: &mut Session<Global>, stream: &[u8], split: usize) -> bool {
 fn stays_beside(alloc: Global, stream: &[u8], split: usize, known: &Known) -> bool {
     match Session::new(alloc, OUTPUT) {
         Ok(mut session) => {
-            begin(alloc, &mut session, STAYS)
+            begin_staying(alloc, &mut session)
                 && plays(&mut session, stream, split)
                 && is_known(&mut session, known)
         }
@@ -96,7 +96,8 @@ fn first_cut(alloc: Global, stream: &[u8], split: usize, known: &Known) -> Optio
     None
 }
 
-/// Replaces one word by each of the others in turn. The one with which the client 1 didn't keep all.
+/// Replaces one word by each of the others in turn. The one with which the client 1 didn't keep
+/// all.
 fn first_word(
     alloc: Global,
     stream: &mut [u8],
@@ -139,7 +140,7 @@ fn known_alone(alloc: Global) -> Option<Known> {
 }
 
 fn known_pointed(alloc: Global, session: &mut Session<Global>) -> Option<Known> {
-    if !begin(alloc, session, STAYS) {
+    if !begin_staying(alloc, session) {
         return None;
     }
     press(session);
@@ -149,8 +150,13 @@ fn known_pointed(alloc: Global, session: &mut Session<Global>) -> Option<Known> 
 
 /// The stream of the client 2, and where it is split. None where there is no memory for it.
 fn split_stream(alloc: Global) -> Option<(Vec<u8, Global>, usize)> {
-    let split = stream_of(alloc, BEFORE, 2)?.len();
-    Some((stream_of(alloc, SENT, 2)?, split))
+    let mut stream = stream_of(alloc, &[BEFORE], 2)?;
+    let split = stream.len();
+    let rest = stream_of(alloc, &[AFTER], 2)?;
+    if stream.extend_from_slice(&rest).is_err() {
+        return None;
+    }
+    Some((stream, split))
 }
 
 #[test]
@@ -193,7 +199,7 @@ fn grabs(session: &mut Session<Global>, stream: &[u8], split: usize) -> bool {
 fn grabs_beside(alloc: Global) -> bool {
     match (Session::new(alloc, OUTPUT), split_stream(alloc)) {
         (Ok(mut session), Some((stream, split))) => {
-            begin(alloc, &mut session, STAYS) && grabs(&mut session, &stream, split)
+            begin_staying(alloc, &mut session) && grabs(&mut session, &stream, split)
         }
         _ => false,
     }

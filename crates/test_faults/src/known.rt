@@ -1,38 +1,28 @@
-//! All that public calls tell of the client 1, which has a window of 40 by 40 pixels and half a message: its stores, what waits for it and the frame, and the
-//! same again once it sent the rest and asked for more. So its objects, serials and buffers are compared too.
+//! All that public calls tell of the client 1, which has a window of 40 by 40 pixels and half a
+//! message. These are its stores, what waits for it and the frame. It is told again once it sent
+//! the rest and asked for more. So its objects, serials and buffers are compared too.
 
 use std::alloc::Global;
+use test_rows::asks::{Ask, bytes_of};
 use test_rows::begun::COMMIT;
-use test_rows::rows::{Message, bytes_of};
 use wl_session::{Fed, Session};
-use wl_wire::Arg;
 
 /// The first bytes of wl_display.sync with the callback 30, and those that are left.
 const HALF: &[u8] = &[1, 0, 0, 0, 0];
 
 const REST: &[u8] = &[0, 12, 0, 30, 0, 0, 0];
 
-/// It asks for another state, shows a buffer that ends where its store does, destroys the other two, and has another store.
-const ASKS: &[Message] = &[
-    Message(8, 9, &[]),
-    Message(
-        9,
-        0,
-        &[
-            Arg::NewId(31),
-            Arg::Int(12544),
-            Arg::Int(8),
-            Arg::Int(8),
-            Arg::Int(32),
-            Arg::Uint(1),
-        ],
-    ),
-    Message(6, 1, &[Arg::Object(31), Arg::Int(0), Arg::Int(0)]),
+/// It asks for another state, shows a buffer that ends where its store does, destroys the other
+/// two, and has another store.
+const ASKS: &[Ask] = &[
+    Ask::SetMaximized(8),
+    Ask::CreateBuffer(9, 31, 12544, 8, 8, 32, 1),
+    Ask::Attach(6, 31),
     COMMIT,
-    Message(10, 0, &[]),
-    Message(11, 0, &[]),
-    Message(4, 0, &[Arg::NewId(32), Arg::Int(16)]),
-    Message(1, 0, &[Arg::NewId(33)]),
+    Ask::BufferDestroy(10),
+    Ask::BufferDestroy(11),
+    Ask::CreatePool(4, 32, 16),
+    Ask::Sync(33),
 ];
 
 /// What is told of the client 1 and shown, before and after it asks, and what it sends for that.
@@ -62,7 +52,8 @@ fn asks(session: &mut Session<Global>, messages: &[u8]) -> bool {
     session.feed(1, REST) == Fed::Alive && session.feed(1, messages) == Fed::Alive
 }
 
-/// What is known of a session in which nobody is beside the client 1. None where it has no window, or can't ask.
+/// What is known of a session in which nobody is beside the client 1. None where it has no window,
+/// or can't ask.
 pub(crate) fn known_of(alloc: Global, session: &mut Session<Global>) -> Option<Known> {
     let before = told(alloc, session)?;
     let frame_before = frame(alloc, session)?;

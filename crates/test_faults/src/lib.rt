@@ -1,4 +1,5 @@
-//! Tests of a session where memory is refused and where streams are broken: what was done is told, and nobody else is hurt.
+//! Tests of a session where memory is refused and where streams are broken: what was done is told,
+//! and nobody else is hurt.
 #![tactic(auto)]
 
 #[cfg(test)]
@@ -19,6 +20,10 @@ mod recorded;
 mod refused;
 #[cfg(test)]
 mod rivals;
+#[cfg(test)]
+mod runs;
+#[cfg(test)]
+mod scenes;
 #[cfg(test)]
 mod settling;
 #[cfg(test)]

@@ -1,10 +1,11 @@
 //! Each allocation of a session refused in turn. The heap refuses every allocation after its last.
 
 use std::alloc::{Allocator, Global};
-use test_rows::rows::{Message, SYNC, bytes_of};
+use test_rows::asks::{Ask, Interface, bytes_of};
+use test_rows::events::{Event, told_bytes};
+use test_rows::rows::SYNC;
 use test_support::Refusing;
 use wl_session::{Cause, Config, ConnectError, Fed, FrameError, Rgb, RunError, Session, Step};
-use wl_wire::Arg;
 
 const CONFIG: Config = Config {
     width: 2,
@@ -86,8 +87,9 @@ fn is_stop(outcome: Outcome, stops: &mut Stops) -> bool {
     }
 }
 
-/// A session that finds no memory isn't made. A run stops at the connect or at the tick that finds none, with the steps
-/// before it taken: the client isn't there yet, or is there, and where there was none for its message, has ended for it.
+/// A session that finds no memory isn't made. A run stops at the connect or at the tick that finds
+/// none, with the steps before it taken. The client isn't there yet, or is there. If there was none
+/// for its message, it has ended for it.
 #[test]
 fn a_run_stops_where_memory_is_refused(rt: HostRuntime) {
     let mut stops = Stops {
@@ -113,7 +115,8 @@ enum Synced {
     NotConnected(ConnectError, Fed),
     /// The client's number, how it is, and how many bytes wait.
     Answered(u32, Fed, usize),
-    /// The client's number, how it is by the call and by its status, how many bytes wait, how it is after another sync, and whether it was
+    /// The client's number, how it is by the call and by its status, how many bytes wait, how it is
+    /// after another sync, and whether it was
     /// closed then.
     Ended(u32, Fed, Fed, usize, Fed, bool),
 }
@@ -173,7 +176,8 @@ fn is_end(synced: Synced, ends: &mut Ends) -> bool {
     }
 }
 
-/// A connect that finds no memory gives no number, and a client whose message finds none ends for it, with nothing of
+/// A connect that finds no memory gives no number, and a client whose message finds none ends for
+/// it, with nothing of
 /// an event that wasn't queued.
 #[test]
 fn a_client_ends_where_memory_is_refused(rt: HostRuntime) {
@@ -203,11 +207,7 @@ struct Answers {
 }
 
 /// wl_display.error(1, 2, "no_memory").
-const ERROR: &[Message] = &[Message(
-    1,
-    0,
-    &[Arg::Object(1), Arg::Uint(2), Arg::Str(b"no_memory")],
-)];
+const ERROR: &[Event] = &[Event::NoMemory];
 
 /// What a client is told in a session of its own. None where it ends, or doesn't connect.
 fn all_told(session: &mut Session<Global>, alloc: Global, piece: &[u8]) -> Option<Vec<u8, Global>> {
@@ -220,7 +220,7 @@ fn all_told(session: &mut Session<Global>, alloc: Global, piece: &[u8]) -> Optio
 
 fn answers_of(alloc: Global, piece: &[u8]) -> Option<Answers> {
     let all = all_of(alloc, piece)?;
-    let error = bytes_of(alloc, ERROR)?;
+    let error = told_bytes(alloc, ERROR)?;
     Some(Answers { all, error })
 }
 
@@ -238,7 +238,8 @@ enum Told {
     NoClient,
     /// It lives and was told all, and its store 1 has so many bytes.
     Alive(Option<u32>),
-    /// It ended as out of memory and has no store. Whether it was told all before, and whether of the end.
+    /// It ended as out of memory and has no store. Whether it was told all before, and whether of
+    /// the end.
     Ended(bool, bool),
     Wrong,
 }
@@ -288,10 +289,11 @@ struct Ended {
     told_end: u32,
 }
 
-/// Feeds messages to clients with ever more allocations served, until none is refused. Gives the clients that ended, and the size of the store of
+/// Feeds messages to clients with ever more allocations served, until none is refused. Gives the
+/// clients that ended, and the size of the store of
 /// the one that lived. None where something else became of a client.
-fn ended_by(alloc: Global, messages: &[Message]) -> Option<(Ended, Option<u32>)> {
-    let piece = bytes_of(alloc, messages)?;
+fn ended_by(alloc: Global, asks: &[Ask]) -> Option<(Ended, Option<u32>)> {
+    let piece = bytes_of(alloc, asks)?;
     let answers = answers_of(alloc, &piece)?;
     let mut ended = Ended {
         count: 0,
@@ -313,23 +315,16 @@ fn ended_by(alloc: Global, messages: &[Message]) -> Option<(Ended, Option<u32>)>
     None
 }
 
-/// wl_display.get_registry of 2, wl_registry.bind of the seat as 3 and wl_display.sync of 4, in one piece.
-const REGISTRY_AND_SEAT: &[Message] = &[
-    Message(1, 1, &[Arg::NewId(2)]),
-    Message(
-        2,
-        0,
-        &[
-            Arg::Uint(5),
-            Arg::Str(b"wl_seat"),
-            Arg::Uint(1),
-            Arg::NewId(3),
-        ],
-    ),
-    Message(1, 0, &[Arg::NewId(4)]),
+/// wl_display.get_registry of 2, wl_registry.bind of the seat as 3 and wl_display.sync of 4, in one
+/// piece.
+const REGISTRY_AND_SEAT: &[Ask] = &[
+    Ask::GetRegistry(2),
+    Ask::Bind(2, 5, Interface::Seat, 1, 3),
+    Ask::Sync(4),
 ];
 
-/// Where there is no memory for an object or for an event, the client ends for it. What was queued before stays.
+/// Where there is no memory for an object or for an event, the client ends for it. What was queued
+/// before stays.
 #[test]
 fn a_registry_finds_no_memory(rt: HostRuntime) {
     let Some((ended, size)) = ended_by(rt.alloc(), REGISTRY_AND_SEAT) else {
@@ -339,49 +334,21 @@ fn a_registry_finds_no_memory(rt: HostRuntime) {
     assert_eq!(rt; size, None);
 }
 
-/// The registry 2, the wl_compositor 3 and the wl_shm 4; the region 5, to which a rectangle is added; and the pool 6 of 64 bytes with the
-/// buffer 7, which then grows to 128.
-const REGION_AND_POOL: &[Message] = &[
-    Message(1, 1, &[Arg::NewId(2)]),
-    Message(
-        2,
-        0,
-        &[
-            Arg::Uint(1),
-            Arg::Str(b"wl_compositor"),
-            Arg::Uint(2),
-            Arg::NewId(3),
-        ],
-    ),
-    Message(
-        2,
-        0,
-        &[
-            Arg::Uint(3),
-            Arg::Str(b"wl_shm"),
-            Arg::Uint(1),
-            Arg::NewId(4),
-        ],
-    ),
-    Message(3, 1, &[Arg::NewId(5)]),
-    Message(5, 1, &[Arg::Int(0), Arg::Int(0), Arg::Int(4), Arg::Int(4)]),
-    Message(4, 0, &[Arg::NewId(6), Arg::Int(64)]),
-    Message(
-        6,
-        0,
-        &[
-            Arg::NewId(7),
-            Arg::Int(0),
-            Arg::Int(4),
-            Arg::Int(4),
-            Arg::Int(16),
-            Arg::Uint(1),
-        ],
-    ),
-    Message(6, 2, &[Arg::Int(128)]),
+/// The registry 2, the wl_compositor 3 and the wl_shm 4. The region 5, to which a rectangle is
+/// added. The pool 6 of 64 bytes with the buffer 7; it grows to 128 then.
+const REGION_AND_POOL: &[Ask] = &[
+    Ask::GetRegistry(2),
+    Ask::Bind(2, 1, Interface::Compositor, 2, 3),
+    Ask::Bind(2, 3, Interface::Shm, 1, 4),
+    Ask::CreateRegion(3, 5),
+    Ask::RegionAdd(5, 0, 0, 4, 4),
+    Ask::CreatePool(4, 6, 64),
+    Ask::CreateBuffer(6, 7, 0, 4, 4, 16, 1),
+    Ask::PoolResize(6, 128),
 ];
 
-/// Where there is no memory for a region, its change, a pool, its store, a buffer or more bytes, the client ends for it, and has no stores.
+/// Where there is no memory for a region, its change, a pool, its store, a buffer or more bytes,
+/// the client ends for it, and has no stores.
 #[test]
 fn a_pool_finds_no_memory(rt: HostRuntime) {
     let Some((ended, size)) = ended_by(rt.alloc(), REGION_AND_POOL) else {

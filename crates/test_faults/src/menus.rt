@@ -1,72 +1,47 @@
-//! Worked sessions with a popup as acts: it is placed and shown, goes along with its parent, and is dismissed with it; or it grabs, and is dismissed by a
-//! press.
+//! Worked sessions with a popup as acts. It is placed and shown, goes along with its parent, and is
+//! dismissed with it. Or it grabs, and is dismissed by a press.
 
 use crate::acts::{Act, Layer};
-use crate::recorded::{BEGINS, BEGUN, MAPS_WIDE, PARENT, WIDE_BUFFERS};
-use test_rows::begun::{ANNOUNCED, COMMIT};
-use test_rows::rows::Message;
-use wl_wire::{Arg, Fixed};
+use crate::recorded::PARENT;
+use test_rows::asks::{Ask, Interface};
+use test_rows::begun::COMMIT;
+use test_rows::events::Event;
 
-const COMMIT_14: Message = Message(14, 6, &[]);
+const COMMIT_14: Ask = Ask::Commit(14);
 
-/// The surface 14 has the popup 17, which the positioner 16 places at the lower right corner of the toplevel.
-const MAKES_POPUP: &[Message] = &[
-    Message(3, 0, &[Arg::NewId(14)]),
-    Message(5, 2, &[Arg::NewId(15), Arg::Object(14)]),
-    Message(5, 1, &[Arg::NewId(16)]),
-    Message(16, 1, &[Arg::Int(8), Arg::Int(8)]),
-    Message(
-        16,
-        2,
-        &[Arg::Int(0), Arg::Int(0), Arg::Int(40), Arg::Int(40)],
-    ),
-    Message(16, 3, &[Arg::Uint(8)]),
-    Message(16, 4, &[Arg::Uint(8)]),
-    Message(15, 2, &[Arg::NewId(17), Arg::Object(7), Arg::Object(16)]),
+/// The surface 14 has the popup 17, which the positioner 16 places at the lower right corner of the
+/// toplevel.
+const MAKES_POPUP: &[Ask] = &[
+    Ask::CreateSurface(3, 14),
+    Ask::GetXdgSurface(5, 15, 14),
+    Ask::CreatePositioner(5, 16),
+    Ask::SetSize(16, 8, 8),
+    Ask::SetAnchorRect(16, 0, 0, 40, 40),
+    Ask::SetAnchor(16, 8),
+    Ask::SetGravity(16, 8),
+    Ask::GetPopup(15, 17, 7, 16),
     COMMIT_14,
 ];
 
-const PLACED: &[Message] = &[
-    Message(
-        17,
-        0,
-        &[Arg::Int(40), Arg::Int(40), Arg::Int(8), Arg::Int(8)],
-    ),
-    Message(15, 0, &[Arg::Uint(2)]),
+const PLACED: &[Event] = &[
+    Event::PopupConfigure(17, 40, 40, 8, 8),
+    Event::Configure(15, 2),
 ];
 
 /// It is mapped with the buffer 18 of 8 by 8 pixels, behind the buffer 10 in the pool 9.
-const SHOWS_POPUP: &[Message] = &[
-    Message(15, 4, &[Arg::Uint(2)]),
-    Message(
-        9,
-        0,
-        &[
-            Arg::NewId(18),
-            Arg::Int(6400),
-            Arg::Int(8),
-            Arg::Int(8),
-            Arg::Int(32),
-            Arg::Uint(1),
-        ],
-    ),
-    Message(14, 1, &[Arg::Object(18), Arg::Int(0), Arg::Int(0)]),
+const SHOWS_POPUP: &[Ask] = &[
+    Ask::AckConfigure(15, 2),
+    Ask::CreateBuffer(9, 18, 6400, 8, 8, 32, 1),
+    Ask::Attach(14, 18),
     COMMIT_14,
 ];
 
 /// The corner of the toplevel's window geometry moves.
-const MOVES: &[Message] = &[
-    Message(
-        7,
-        3,
-        &[Arg::Int(4), Arg::Int(4), Arg::Int(32), Arg::Int(32)],
-    ),
-    COMMIT,
-];
+const MOVES: &[Ask] = &[Ask::SetWindowGeometry(7, 4, 4, 32, 32), COMMIT];
 
-const ENDS_TOPLEVEL: &[Message] = &[Message(8, 0, &[])];
+const ENDS_TOPLEVEL: &[Ask] = &[Ask::ToplevelDestroy(8)];
 
-const DISMISSED: &[Message] = &[Message(1, 1, &[Arg::Uint(8)]), Message(17, 1, &[])];
+const DISMISSED: &[Event] = &[Event::DeleteId(8), Event::PopupDone(17)];
 
 /// The popup, which is black, at its first place, and at its second.
 const POPUP: Layer = Layer {
@@ -87,18 +62,15 @@ const MOVED: Layer = Layer {
     color: [0, 0, 0],
 };
 
-/// A window has a popup, which goes along with it and is dismissed as it goes.
-pub(crate) const MENU: &[Act] = &[
-    Act::Connects(1),
-    Act::Sends(1, BEGINS),
-    Act::Told(1, ANNOUNCED),
-    Act::Told(1, BEGUN),
-    Act::Sends(1, WIDE_BUFFERS),
-    Act::Fills(1, 1, 0, 6400, 128),
-    Act::Maps(1, MAPS_WIDE),
+/// The window is shown, and has a popup that is placed.
+pub(crate) const PLACED_POPUP: &[Act] = &[
     Act::Shows(&[PARENT]),
     Act::Sends(1, MAKES_POPUP),
     Act::Told(1, PLACED),
+];
+
+/// The popup is shown, goes along with its parent and is dismissed as that goes.
+pub(crate) const MENU: &[Act] = &[
     Act::Sends(1, SHOWS_POPUP),
     Act::Silent(1),
     Act::Shows(&[PARENT, POPUP]),
@@ -111,84 +83,39 @@ pub(crate) const MENU: &[Act] = &[
 ];
 
 /// The wl_seat 12, and its wl_pointer 13.
-pub(crate) const SEAT: &[Message] = &[
-    Message(
-        2,
-        0,
-        &[
-            Arg::Uint(5),
-            Arg::Str(b"wl_seat"),
-            Arg::Uint(1),
-            Arg::NewId(12),
-        ],
-    ),
-    Message(12, 0, &[Arg::NewId(13)]),
+pub(crate) const SEAT: &[Ask] = &[
+    Ask::Bind(2, 5, Interface::Seat, 1, 12),
+    Ask::GetPointer(12, 13),
 ];
 
-pub(crate) const CAPABLE: &[Message] = &[Message(12, 0, &[Arg::Uint(1)])];
+pub(crate) const CAPABLE: &[Event] = &[Event::Capabilities(12, 1)];
 
-/// The pointer enters the toplevel at (5, 4) with the serial 3, and the button is pressed there with the serial 4, and released with 5.
-const ENTERED: &[Message] = &[Message(
-    13,
-    0,
-    &[
-        Arg::Uint(3),
-        Arg::Object(6),
-        Arg::Fixed(Fixed(1280)),
-        Arg::Fixed(Fixed(1024)),
-    ],
-)];
+/// The pointer enters the toplevel at (5, 4) with the serial 3, and the button is pressed there
+/// with the serial 4, and released with 5.
+const ENTERED: &[Event] = &[Event::Enter(13, 3, 6, 1280, 1024)];
 
-const PRESSED: &[Message] = &[Message(
-    13,
-    3,
-    &[Arg::Uint(4), Arg::Uint(2), Arg::Uint(272), Arg::Uint(1)],
-)];
+const PRESSED: &[Event] = &[Event::Button(13, 4, 2, 272, 1)];
 
-const RELEASED: &[Message] = &[Message(
-    13,
-    3,
-    &[Arg::Uint(5), Arg::Uint(2), Arg::Uint(272), Arg::Uint(0)],
-)];
+const RELEASED: &[Event] = &[Event::Button(13, 5, 2, 272, 0)];
 
 /// The popup grabs with the serial of the press before it is mapped.
-const GRABS: &[Message] = &[
-    Message(15, 4, &[Arg::Uint(2)]),
-    Message(17, 1, &[Arg::Object(12), Arg::Uint(4)]),
-    Message(
-        9,
-        0,
-        &[
-            Arg::NewId(18),
-            Arg::Int(6400),
-            Arg::Int(8),
-            Arg::Int(8),
-            Arg::Int(32),
-            Arg::Uint(1),
-        ],
-    ),
-    Message(14, 1, &[Arg::Object(18), Arg::Int(0), Arg::Int(0)]),
+const GRABS: &[Ask] = &[
+    Ask::AckConfigure(15, 2),
+    Ask::Grab(17, 12, 4),
+    Ask::CreateBuffer(9, 18, 6400, 8, 8, 32, 1),
+    Ask::Attach(14, 18),
     COMMIT_14,
 ];
 
-const LEFT: &[Message] = &[Message(13, 1, &[Arg::Uint(6), Arg::Object(6)])];
+const LEFT: &[Event] = &[Event::Leave(13, 6, 6)];
 
-const DONE: &[Message] = &[Message(17, 1, &[])];
+const DONE: &[Event] = &[Event::PopupDone(17)];
 
-/// A window has a popup that grabs, and which a press where nothing is dismisses.
+/// The client 1 has a wl_pointer.
+pub(crate) const SEATED: &[Act] = &[Act::Sends(1, SEAT), Act::Told(1, CAPABLE)];
+
+/// The popup grabs, and a press where nothing is dismisses it.
 pub(crate) const GRAB: &[Act] = &[
-    Act::Connects(1),
-    Act::Sends(1, BEGINS),
-    Act::Told(1, ANNOUNCED),
-    Act::Told(1, BEGUN),
-    Act::Sends(1, WIDE_BUFFERS),
-    Act::Fills(1, 1, 0, 6400, 128),
-    Act::Maps(1, MAPS_WIDE),
-    Act::Shows(&[PARENT]),
-    Act::Sends(1, MAKES_POPUP),
-    Act::Told(1, PLACED),
-    Act::Sends(1, SEAT),
-    Act::Told(1, CAPABLE),
     Act::Points(5, 4),
     Act::Told(1, ENTERED),
     Act::Presses(true),

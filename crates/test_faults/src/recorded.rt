@@ -1,108 +1,49 @@
-//! Worked sessions as acts: two clients whose windows overlap, one with a subsurface, and one whose buffer two surfaces show.
+//! Worked sessions as acts: two clients whose windows overlap, one with a subsurface, and one whose
+//! buffer two surfaces show.
 
 use crate::acts::{Act, Layer};
+use test_rows::asks::{Ask, Interface};
 use test_rows::begun::{
     ANNOUNCED, ATTACH_10, BUFFER_10, BUFFER_11, COMMIT, CONFIGURED, POOL_12800,
 };
-use test_rows::rows::Message;
-use wl_wire::Arg;
+use test_rows::events::Event;
 
-/// The registry 2, the wl_compositor 3, the wl_shm 4, the xdg_wm_base 5, and the toplevel 8 of the surface 6, which was configured.
-pub(crate) const BEGINS: &[Message] = &[
-    Message(1, 1, &[Arg::NewId(2)]),
-    Message(
-        2,
-        0,
-        &[
-            Arg::Uint(1),
-            Arg::Str(b"wl_compositor"),
-            Arg::Uint(2),
-            Arg::NewId(3),
-        ],
-    ),
-    Message(
-        2,
-        0,
-        &[
-            Arg::Uint(3),
-            Arg::Str(b"wl_shm"),
-            Arg::Uint(1),
-            Arg::NewId(4),
-        ],
-    ),
-    Message(
-        2,
-        0,
-        &[
-            Arg::Uint(6),
-            Arg::Str(b"xdg_wm_base"),
-            Arg::Uint(1),
-            Arg::NewId(5),
-        ],
-    ),
-    Message(3, 0, &[Arg::NewId(6)]),
-    Message(5, 2, &[Arg::NewId(7), Arg::Object(6)]),
-    Message(7, 1, &[Arg::NewId(8)]),
+/// The registry 2, the wl_compositor 3, the wl_shm 4, the xdg_wm_base 5, and the toplevel 8 of the
+/// surface 6, which was configured.
+pub(crate) const BEGINS: &[Ask] = &[
+    Ask::GetRegistry(2),
+    Ask::Bind(2, 1, Interface::Compositor, 2, 3),
+    Ask::Bind(2, 3, Interface::Shm, 1, 4),
+    Ask::Bind(2, 6, Interface::WmBase, 1, 5),
+    Ask::CreateSurface(3, 6),
+    Ask::GetXdgSurface(5, 7, 6),
+    Ask::GetToplevel(7, 8),
     COMMIT,
-    Message(7, 4, &[Arg::Uint(1)]),
+    Ask::AckConfigure(7, 1),
 ];
 
 /// What it is told, after the globals: the formats, and the first configure.
-pub(crate) const BEGUN: &[Message] = &[
-    Message(4, 0, &[Arg::Uint(0)]),
-    Message(4, 0, &[Arg::Uint(1)]),
+pub(crate) const BEGUN: &[Event] = &[
+    Event::Format(4, 0),
+    Event::Format(4, 1),
     CONFIGURED,
-    Message(7, 0, &[Arg::Uint(1)]),
+    Event::Configure(7, 1),
 ];
 
 /// The pool 9 with the buffers 10 and 11 of 40 by 40 pixels.
-pub(crate) const WIDE_BUFFERS: &[Message] = &[POOL_12800, BUFFER_10, BUFFER_11];
+pub(crate) const WIDE_BUFFERS: &[Ask] = &[POOL_12800, BUFFER_10, BUFFER_11];
 
 /// The same with buffers of 8 by 8 pixels.
-const SMALL_BUFFERS: &[Message] = &[
+const SMALL_BUFFERS: &[Ask] = &[
     POOL_12800,
-    Message(
-        9,
-        0,
-        &[
-            Arg::NewId(10),
-            Arg::Int(0),
-            Arg::Int(8),
-            Arg::Int(8),
-            Arg::Int(32),
-            Arg::Uint(1),
-        ],
-    ),
-    Message(
-        9,
-        0,
-        &[
-            Arg::NewId(11),
-            Arg::Int(256),
-            Arg::Int(8),
-            Arg::Int(8),
-            Arg::Int(32),
-            Arg::Uint(1),
-        ],
-    ),
+    Ask::CreateBuffer(9, 10, 0, 8, 8, 32, 1),
+    Ask::CreateBuffer(9, 11, 256, 8, 8, 32, 1),
 ];
 
 /// The buffer 10 is attached and damaged, and the toplevel is mapped.
-pub(crate) const MAPS_WIDE: &[Message] = &[
-    ATTACH_10,
-    Message(
-        6,
-        2,
-        &[Arg::Int(0), Arg::Int(0), Arg::Int(40), Arg::Int(40)],
-    ),
-    COMMIT,
-];
+pub(crate) const MAPS_WIDE: &[Ask] = &[ATTACH_10, Ask::Damage(6, 0, 0, 40, 40), COMMIT];
 
-const MAPS_SMALL: &[Message] = &[
-    ATTACH_10,
-    Message(6, 2, &[Arg::Int(0), Arg::Int(0), Arg::Int(8), Arg::Int(8)]),
-    COMMIT,
-];
+const MAPS_SMALL: &[Ask] = &[ATTACH_10, Ask::Damage(6, 0, 0, 8, 8), COMMIT];
 
 /// Three red pixels, as a store has them.
 const THREE_RED: &[u8] = &[0, 0, 255, 0, 0, 0, 255, 0, 0, 0, 255, 0];
@@ -146,34 +87,38 @@ const SMALL: Layer = Layer {
 };
 
 /// The buffer 11, of which nine points are red, takes the place of the buffer 10.
-const CHANGES_NINE: &[Message] = &[
-    Message(6, 1, &[Arg::Object(11), Arg::Int(0), Arg::Int(0)]),
-    Message(
-        6,
-        2,
-        &[Arg::Int(31), Arg::Int(33), Arg::Int(3), Arg::Int(3)],
-    ),
-    COMMIT,
-];
+const CHANGES_NINE: &[Ask] = &[Ask::Attach(6, 11), Ask::Damage(6, 31, 33, 3, 3), COMMIT];
 
-const RELEASED_10: &[Message] = &[Message(10, 0, &[])];
+const RELEASED_10: &[Event] = &[Event::Release(10)];
 
-/// The client 1 shows a window that is black, and the client 2 a grey one above it; then nine points of the lower one change.
-pub(crate) const TWO_WINDOWS: &[Act] = &[
+/// The client 1 has a toplevel that was configured, and its buffers.
+pub(crate) const FIRST_CLIENT: &[Act] = &[
     Act::Connects(1),
     Act::Sends(1, BEGINS),
     Act::Told(1, ANNOUNCED),
     Act::Told(1, BEGUN),
     Act::Sends(1, WIDE_BUFFERS),
+];
+
+/// The client 2 has a toplevel that was configured.
+pub(crate) const SECOND_CLIENT: &[Act] = &[
+    Act::Connects(2),
+    Act::Sends(2, BEGINS),
+    Act::Told(2, ANNOUNCED),
+    Act::Told(2, BEGUN),
+];
+
+/// The window of the client 1 is mapped in black; nine points of its other buffer are red.
+pub(crate) const BLACK_WINDOW: &[Act] = &[
     Act::Stores(1, 1, 11804, THREE_RED),
     Act::Stores(1, 1, 11964, THREE_RED),
     Act::Stores(1, 1, 12124, THREE_RED),
     Act::Maps(1, MAPS_WIDE),
     Act::Shows(&[WIDE]),
-    Act::Connects(2),
-    Act::Sends(2, BEGINS),
-    Act::Told(2, ANNOUNCED),
-    Act::Told(2, BEGUN),
+];
+
+/// The client 2 shows a grey window above that; then nine points of the lower one change.
+pub(crate) const TWO_WINDOWS: &[Act] = &[
     Act::Sends(2, SMALL_BUFFERS),
     Act::Fills(2, 1, 0, 256, 128),
     Act::Maps(2, MAPS_SMALL),
@@ -186,82 +131,29 @@ pub(crate) const TWO_WINDOWS: &[Act] = &[
     Act::Silent(2),
 ];
 
-/// The wl_subcompositor 15, the surface 14 as a subsurface 16 at (4, 4), and its buffers 18, 19 and 20 of 4 by 4 pixels in the pool 17.
-const MAKES_SUBSURFACE: &[Message] = &[
-    Message(
-        2,
-        0,
-        &[
-            Arg::Uint(2),
-            Arg::Str(b"wl_subcompositor"),
-            Arg::Uint(1),
-            Arg::NewId(15),
-        ],
-    ),
-    Message(3, 0, &[Arg::NewId(14)]),
-    Message(15, 1, &[Arg::NewId(16), Arg::Object(14), Arg::Object(6)]),
-    Message(16, 1, &[Arg::Int(4), Arg::Int(4)]),
-    Message(4, 0, &[Arg::NewId(17), Arg::Int(192)]),
-    Message(
-        17,
-        0,
-        &[
-            Arg::NewId(18),
-            Arg::Int(0),
-            Arg::Int(4),
-            Arg::Int(4),
-            Arg::Int(16),
-            Arg::Uint(1),
-        ],
-    ),
-    Message(
-        17,
-        0,
-        &[
-            Arg::NewId(19),
-            Arg::Int(64),
-            Arg::Int(4),
-            Arg::Int(4),
-            Arg::Int(16),
-            Arg::Uint(1),
-        ],
-    ),
-    Message(
-        17,
-        0,
-        &[
-            Arg::NewId(20),
-            Arg::Int(128),
-            Arg::Int(4),
-            Arg::Int(4),
-            Arg::Int(16),
-            Arg::Uint(1),
-        ],
-    ),
+/// The wl_subcompositor 15, the surface 14 as a subsurface 16 at (4, 4), and its buffers 18, 19 and
+/// 20 of 4 by 4 pixels in the pool 17.
+const MAKES_SUBSURFACE: &[Ask] = &[
+    Ask::Bind(2, 2, Interface::Subcompositor, 1, 15),
+    Ask::CreateSurface(3, 14),
+    Ask::GetSubsurface(15, 16, 14, 6),
+    Ask::SetPosition(16, 4, 4),
+    Ask::CreatePool(4, 17, 192),
+    Ask::CreateBuffer(17, 18, 0, 4, 4, 16, 1),
+    Ask::CreateBuffer(17, 19, 64, 4, 4, 16, 1),
+    Ask::CreateBuffer(17, 20, 128, 4, 4, 16, 1),
 ];
 
-const COMMIT_14: Message = Message(14, 6, &[]);
+const COMMIT_14: Ask = Ask::Commit(14);
 
-const SHOWS_18: &[Message] = &[
-    Message(14, 1, &[Arg::Object(18), Arg::Int(0), Arg::Int(0)]),
-    COMMIT_14,
-    COMMIT,
-];
+const SHOWS_18: &[Ask] = &[Ask::Attach(14, 18), COMMIT_14, COMMIT];
 
 /// A commit with the buffer 19 is held, and then one with the buffer 20.
-const HOLDS_19: &[Message] = &[
-    Message(14, 1, &[Arg::Object(19), Arg::Int(0), Arg::Int(0)]),
-    Message(14, 2, &[Arg::Int(0), Arg::Int(0), Arg::Int(1), Arg::Int(1)]),
-    COMMIT_14,
-];
+const HOLDS_19: &[Ask] = &[Ask::Attach(14, 19), Ask::Damage(14, 0, 0, 1, 1), COMMIT_14];
 
-const HOLDS_20: &[Message] = &[
-    Message(14, 1, &[Arg::Object(20), Arg::Int(0), Arg::Int(0)]),
-    Message(14, 2, &[Arg::Int(3), Arg::Int(3), Arg::Int(1), Arg::Int(1)]),
-    COMMIT_14,
-];
+const HOLDS_20: &[Ask] = &[Ask::Attach(14, 20), Ask::Damage(14, 3, 3, 1, 1), COMMIT_14];
 
-const COMMITS: &[Message] = &[COMMIT];
+const COMMITS: &[Ask] = &[COMMIT];
 
 /// The window of the client 1 in grey, and the subsurface in it with its first and its last point.
 pub(crate) const PARENT: Layer = Layer {
@@ -300,64 +192,42 @@ const LAST: Layer = Layer {
     color: GREEN,
 };
 
-/// A subsurface is shown by a commit of its parent; two commits of it are held, and shown with the next one of its parent.
+/// Its window is mapped in grey.
+pub(crate) const GREY_WINDOW: &[Act] = &[Act::Fills(1, 1, 0, 6400, 128), Act::Maps(1, MAPS_WIDE)];
+
+/// A subsurface is shown by a commit of its parent.
 pub(crate) const SUBSURFACE: &[Act] = &[
-    Act::Connects(1),
-    Act::Sends(1, BEGINS),
-    Act::Told(1, ANNOUNCED),
-    Act::Told(1, BEGUN),
-    Act::Sends(1, WIDE_BUFFERS),
-    Act::Fills(1, 1, 0, 6400, 128),
-    Act::Maps(1, MAPS_WIDE),
     Act::Sends(1, MAKES_SUBSURFACE),
     Act::Stores(1, 2, 64, &[0, 0, 255, 0]),
     Act::Stores(1, 2, 128, &[0, 0, 255, 0]),
     Act::Stores(1, 2, 188, &[0, 255, 0, 0]),
     Act::Sends(1, SHOWS_18),
     Act::Shows(&[PARENT, CHILD]),
+];
+
+/// Two commits of it are held, and shown with the next one of its parent.
+pub(crate) const HELD: &[Act] = &[
     Act::Sends(1, HOLDS_19),
     Act::Silent(1),
     Act::Sends(1, HOLDS_20),
-    Act::Told(1, &[Message(19, 0, &[])]),
+    Act::Told(1, &[Event::Release(19)]),
     Act::Shows(&[PARENT, CHILD]),
     Act::Silent(1),
     Act::Sends(1, COMMITS),
-    Act::Told(1, &[Message(18, 0, &[])]),
+    Act::Told(1, &[Event::Release(18)]),
     Act::Shows(&[PARENT, CHILD, FIRST, LAST]),
     Act::Silent(1),
 ];
 
 /// The surface 14 without a role shows the buffer 10 too.
-const SHOWS_10_TWICE: &[Message] = &[
-    Message(3, 0, &[Arg::NewId(14)]),
-    Message(14, 1, &[Arg::Object(10), Arg::Int(0), Arg::Int(0)]),
-    COMMIT_14,
-];
+const SHOWS_10_TWICE: &[Ask] = &[Ask::CreateSurface(3, 14), Ask::Attach(14, 10), COMMIT_14];
 
-const ATTACHES_11: &[Message] = &[
-    Message(6, 1, &[Arg::Object(11), Arg::Int(0), Arg::Int(0)]),
-    Message(
-        6,
-        2,
-        &[Arg::Int(0), Arg::Int(0), Arg::Int(40), Arg::Int(40)],
-    ),
-    COMMIT,
-];
+const ATTACHES_11: &[Ask] = &[Ask::Attach(6, 11), Ask::Damage(6, 0, 0, 40, 40), COMMIT];
 
-const NONE_FOR_14: &[Message] = &[
-    Message(14, 1, &[Arg::Object(0), Arg::Int(0), Arg::Int(0)]),
-    COMMIT_14,
-];
+const NONE_FOR_14: &[Ask] = &[Ask::Attach(14, 0), COMMIT_14];
 
 /// A buffer that two surfaces show is released once neither does.
 pub(crate) const SHOWN_TWICE: &[Act] = &[
-    Act::Connects(1),
-    Act::Sends(1, BEGINS),
-    Act::Told(1, ANNOUNCED),
-    Act::Told(1, BEGUN),
-    Act::Sends(1, WIDE_BUFFERS),
-    Act::Fills(1, 1, 0, 6400, 128),
-    Act::Maps(1, MAPS_WIDE),
     Act::Shows(&[PARENT]),
     Act::Sends(1, SHOWS_10_TWICE),
     Act::Sends(1, ATTACHES_11),

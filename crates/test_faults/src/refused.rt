@@ -1,25 +1,20 @@
-//! Each allocation of worked sessions refused in turn, with all after it or alone: a session isn't made, a client doesn't connect or ends as out of memory, or
-//! nothing is struck; and each frame shows the windows of the clients that are left.
+//! Each allocation of worked sessions refused in turn, with all after it or alone. A session isn't
+//! made, a client doesn't connect or ends as out of memory, or nothing is struck. Each frame shows
+//! the windows of the clients that are left.
 
-use crate::acts::{
-    Act, Layer, OUTPUT, Part, Places, Plan, Planned, is_painted, place_of, plan_of, step_of,
-    steps_of,
-};
-use crate::menus::{GRAB, MENU};
-use crate::recorded::{SHOWN_TWICE, SUBSURFACE, TWO_WINDOWS};
-use crate::rivals::RIVALS;
-use crate::settling::{ENTERED_ANEW, LEFT_BELOW};
+use crate::acts::{Layer, OUTPUT, Part, Places, Plan, Planned, is_painted, plan_of_parts};
+use crate::scenes::{Scene, parts_of};
 use std::alloc::{Allocator, Global};
 use test_support::Refusing;
-use wl_session::{Cause, ConnectError, Fed, FrameError, RunError, Session, Shot, Step, Stored};
+use wl_session::{Cause, ConnectError, Fed, FrameError, Session, Stored};
 
 /// More allocations than any of these sessions makes.
-const MANY: u64 = 2000;
+pub(crate) const MANY: u64 = 2000;
 
-const NO_MEMORY: Fed = Fed::Ended(Cause::Memory);
+pub(crate) const NO_MEMORY: Fed = Fed::Ended(Cause::Memory);
 
-/// How far a session came: the clients that live, where their toplevels stand, how many were mapped, how many ended by what another one sent, and what the
-/// last frame showed.
+/// How far a session came: the clients that live, where their toplevels stand, and how many were
+/// mapped. Also how many ended by what another one sent, and what the last frame showed.
 #[derive(Clone, Copy)]
 struct Progress<'a> {
     lives: [bool; 2],
@@ -124,7 +119,8 @@ fn send<A: Allocator + Copy>(session: &mut Session<A>, client: u32, told: &[u8])
     session.out(client).unwrap_or(&[]).starts_with(told) && session.sent(client, told.len())
 }
 
-/// All that waits for a client is the first of these parts or, where the other client has ended, any of them. It is taken.
+/// All that waits for a client is the first of these parts or, where the other client has ended,
+/// any of them. It is taken.
 fn send_any<A: Allocator + Copy>(
     session: &mut Session<A>,
     plan: &Plan,
@@ -145,7 +141,11 @@ fn is_silent<A: Allocator + Copy>(session: &Session<A>, client: u32) -> bool {
     }
 }
 
-fn shows<A: Allocator + Copy>(session: &mut Session<A>, layers: &[Layer], places: Places) -> bool {
+pub(crate) fn shows<A: Allocator + Copy>(
+    session: &mut Session<A>,
+    layers: &[Layer],
+    places: Places,
+) -> bool {
     let frame = session.tick(0);
     is_painted(frame.pixels.pixels(), layers, places)
 }
@@ -170,7 +170,8 @@ fn feed<A: Allocator + Copy>(
     is_right && are_others_right
 }
 
-/// Each client lives on, or has ended as out of memory, after the pointer did something or was settled anew.
+/// Each client lives on, or has ended as out of memory, after the pointer did something or was
+/// settled anew.
 fn are_left<A: Allocator + Copy>(session: &Session<A>, progress: &mut Progress) -> bool {
     for client in [1, 2] {
         if progress.has(client) && !progress.is_fed(client, session.status(client)) {
@@ -268,7 +269,8 @@ fn take<'a, A: Allocator + Copy>(
     }
 }
 
-/// Takes the steps of a plan by their own calls. Where a client doesn't connect, the next frame shows what the last one did.
+/// Takes the steps of a plan by their own calls. Where a client doesn't connect, the next frame
+/// shows what the last one did.
 fn play<A: Allocator + Copy>(session: &mut Session<A>, plan: &Plan) -> Outcome {
     let mut progress = BEGUN;
     for (place, planned) in plan.steps.iter().enumerate() {
@@ -291,7 +293,7 @@ fn play<A: Allocator + Copy>(session: &mut Session<A>, plan: &Plan) -> Outcome {
 }
 
 /// A heap that refuses one allocation, or that and all after it.
-fn heap_of(alloc: Global, served: u64, once: bool) -> Refusing<Global> {
+pub(crate) fn heap_of(alloc: Global, served: u64, once: bool) -> Refusing<Global> {
     if once {
         Refusing::once(alloc, served)
     } else {
@@ -353,7 +355,8 @@ const UNCOUNTED: Tally = Tally {
     struck: 0,
 };
 
-/// Plays a plan with ever more allocations served, until none is refused. None where something happened that may not.
+/// Plays a plan with ever more allocations served, until none is refused. None where something
+/// happened that may not.
 fn tally_of(alloc: Global, plan: &Plan, once: bool) -> Option<Tally> {
     let mut tally = UNCOUNTED;
     for served in 0..MANY {
@@ -369,351 +372,210 @@ fn tally_of(alloc: Global, plan: &Plan, once: bool) -> Option<Tally> {
     None
 }
 
-/// What becomes of some acts where each allocation is refused in turn, with all after it, and alone.
-fn tallies_of(alloc: Global, acts: &[Act]) -> Option<(Tally, Tally)> {
-    let plan = plan_of(alloc, acts)?;
+/// What becomes of a worked session where each allocation is refused in turn, with all after it,
+/// and alone.
+fn tallies_of(alloc: Global, scene: Scene) -> Option<(Tally, Tally)> {
+    let parts = parts_of(alloc, scene)?;
+    let plan = plan_of_parts(alloc, &parts)?;
     let all = tally_of(alloc, &plan, false)?;
     let alone = tally_of(alloc, &plan, true)?;
     Some((all, alone))
 }
 
+/// What is wanted of several sessions: at least so many of each kind, and at most so many in which
+/// two clients are left.
+#[derive(Clone, Copy)]
+struct Wanted {
+    least: Tally,
+    most_two: u32,
+}
+
+fn is_wanted(tally: Tally, wanted: Wanted) -> bool {
+    let least = wanted.least;
+    tally.stopped >= least.stopped
+        && tally.none >= least.none
+        && tally.one >= least.one
+        && tally.two >= least.two
+        && tally.two <= wanted.most_two
+        && tally.struck >= least.struck
+}
+
+const ANY: Wanted = Wanted {
+    least: UNCOUNTED,
+    most_two: u32::MAX,
+};
+
+/// A worked session, and what is wanted where each allocation is refused in turn, with all after
+/// it, and alone.
+type Case = (Scene, Wanted, Wanted);
+
+const ONE_OR_NONE: Wanted = Wanted {
+    least: Tally {
+        none: 31,
+        one: 1,
+        ..UNCOUNTED
+    },
+    ..ANY
+};
+
+const STRUCK_ALONE: Wanted = Wanted {
+    least: Tally {
+        one: 21,
+        two: 1,
+        struck: 1,
+        ..UNCOUNTED
+    },
+    ..ANY
+};
+
+/// What is counted of a case that isn't as wanted. No counts are of one in which something happened
+/// that may not.
+fn missed(alloc: Global, case: Case) -> Option<Option<(Tally, Tally)>> {
+    let (scene, wanted_all, wanted_alone) = case;
+    let tallies = tallies_of(alloc, scene);
+    match tallies {
+        Some((all, alone)) if is_wanted(all, wanted_all) && is_wanted(alone, wanted_alone) => None,
+        _ => Some(tallies),
+    }
+}
+
+const TWO_WINDOWS: Case = (
+    Scene::TwoWindows,
+    Wanted {
+        least: Tally {
+            stopped: 6,
+            none: 6,
+            one: 1,
+            two: 1,
+            struck: 0,
+        },
+        ..ANY
+    },
+    Wanted {
+        least: Tally {
+            one: 21,
+            two: 1,
+            ..UNCOUNTED
+        },
+        ..ANY
+    },
+);
+
 #[test]
 fn two_windows_without_memory(rt: HostRuntime) {
-    let Some((all, alone)) = tallies_of(rt.alloc(), TWO_WINDOWS) else {
-        panic!(rt; "something happened that may not")
-    };
-    assert!(rt;
-        all.stopped > 5 && all.none > 5 && all.one > 0 && all.two > 0,
-        "{all:?}"
-    );
-    assert!(rt; alone.one > 20 && alone.two > 0, "{alone:?}");
+    assert_eq!(rt; missed(rt.alloc(), TWO_WINDOWS), None);
 }
+
+const SUBSURFACE: Case = (
+    Scene::Subsurface,
+    Wanted {
+        least: Tally {
+            none: 41,
+            one: 1,
+            ..UNCOUNTED
+        },
+        ..ANY
+    },
+    Wanted {
+        least: Tally {
+            none: 41,
+            one: 1,
+            ..UNCOUNTED
+        },
+        ..ANY
+    },
+);
 
 #[test]
 fn a_subsurface_without_memory(rt: HostRuntime) {
-    let Some((all, alone)) = tallies_of(rt.alloc(), SUBSURFACE) else {
-        panic!(rt; "something happened that may not")
-    };
-    assert!(rt; all.none > 40 && all.one > 0, "{all:?}");
-    assert!(rt; alone.none > 40 && alone.one > 0, "{alone:?}");
+    assert_eq!(rt; missed(rt.alloc(), SUBSURFACE), None);
 }
+
+const MENU: Case = (Scene::Menu, ONE_OR_NONE, ONE_OR_NONE);
 
 #[test]
 fn a_popup_without_memory(rt: HostRuntime) {
-    let Some((all, alone)) = tallies_of(rt.alloc(), MENU) else {
-        panic!(rt; "something happened that may not")
-    };
-    assert!(rt; all.none > 30 && all.one > 0, "{all:?}");
-    assert!(rt; alone.none > 30 && alone.one > 0, "{alone:?}");
+    assert_eq!(rt; missed(rt.alloc(), MENU), None);
 }
+
+const GRAB: Case = (Scene::Grab, ONE_OR_NONE, ONE_OR_NONE);
 
 #[test]
 fn a_grab_without_memory(rt: HostRuntime) {
-    let Some((all, alone)) = tallies_of(rt.alloc(), GRAB) else {
-        panic!(rt; "something happened that may not")
-    };
-    assert!(rt; all.none > 30 && all.one > 0, "{all:?}");
-    assert!(rt; alone.none > 30 && alone.one > 0, "{alone:?}");
+    assert_eq!(rt; missed(rt.alloc(), GRAB), None);
 }
 
 /// The popup's client goes in the end, so the client 1 is left, or none.
+const RIVALS: Case = (
+    Scene::Rivals,
+    Wanted {
+        least: Tally {
+            stopped: 21,
+            one: 21,
+            ..UNCOUNTED
+        },
+        most_two: 0,
+    },
+    Wanted {
+        least: Tally {
+            none: 21,
+            one: 21,
+            ..UNCOUNTED
+        },
+        most_two: 0,
+    },
+);
+
 #[test]
 fn rivals_without_memory(rt: HostRuntime) {
-    let Some((all, alone)) = tallies_of(rt.alloc(), RIVALS) else {
-        panic!(rt; "something happened that may not")
-    };
-    assert!(rt; all.stopped > 20 && all.one > 20 && all.two == 0, "{all:?}");
-    assert!(rt;
-        alone.none > 20 && alone.one > 20 && alone.two == 0,
-        "{alone:?}"
-    );
+    assert_eq!(rt; missed(rt.alloc(), RIVALS), None);
 }
 
-/// Who can't be told that another's window hides its own from the pointer ends, and the other is settled on and lives.
+/// Who can't be told that another's window hides its own from the pointer ends, and the other is
+/// settled on and lives.
+const LEFT_BELOW: Case = (
+    Scene::LeftBelow,
+    Wanted {
+        least: Tally {
+            one: 11,
+            two: 1,
+            struck: 1,
+            ..UNCOUNTED
+        },
+        ..ANY
+    },
+    STRUCK_ALONE,
+);
+
 #[test]
 fn a_window_below_another_without_memory(rt: HostRuntime) {
-    let Some((all, alone)) = tallies_of(rt.alloc(), LEFT_BELOW) else {
-        panic!(rt; "something happened that may not")
-    };
-    assert!(rt; all.one > 10 && all.two > 0 && all.struck > 0, "{all:?}");
-    assert!(rt;
-        alone.one > 20 && alone.two > 0 && alone.struck > 0,
-        "{alone:?}"
-    );
+    assert_eq!(rt; missed(rt.alloc(), LEFT_BELOW), None);
 }
 
-/// Who can't be told that the pointer enters its window as another's goes ends, and its window goes.
+/// Who can't be told that the pointer enters its window as another's goes ends, and its window
+/// goes.
+const ENTERED_ANEW: Case = (
+    Scene::EnteredAnew,
+    Wanted {
+        least: Tally {
+            none: 11,
+            one: 1,
+            struck: 3,
+            ..UNCOUNTED
+        },
+        ..ANY
+    },
+    STRUCK_ALONE,
+);
+
 #[test]
 fn a_window_that_comes_out_without_memory(rt: HostRuntime) {
-    let Some((all, alone)) = tallies_of(rt.alloc(), ENTERED_ANEW) else {
-        panic!(rt; "something happened that may not")
-    };
-    assert!(rt; all.none > 10 && all.one > 0 && all.struck > 2, "{all:?}");
-    assert!(rt;
-        alone.one > 20 && alone.two > 0 && alone.struck > 0,
-        "{alone:?}"
-    );
+    assert_eq!(rt; missed(rt.alloc(), ENTERED_ANEW), None);
 }
+
+const SHOWN_TWICE: Case = (Scene::ShownTwice, ONE_OR_NONE, ONE_OR_NONE);
 
 #[test]
 fn a_buffer_shown_twice_without_memory(rt: HostRuntime) {
-    let Some((all, alone)) = tallies_of(rt.alloc(), SHOWN_TWICE) else {
-        panic!(rt; "something happened that may not")
-    };
-    assert!(rt; all.none > 30 && all.one > 0, "{all:?}");
-    assert!(rt; alone.none > 30 && alone.one > 0, "{alone:?}");
-}
-
-/// What became of a run.
-#[derive(Clone, Copy, PartialEq, Eq)]
-enum Ran {
-    NoSession,
-    /// It stopped at a connect, or at a tick.
-    AtConnect,
-    AtTick,
-    /// It answered a frame of each tick.
-    All,
-    Wrong,
-}
-
-/// Takes so many steps of a plan in a session of ample memory.
-fn take_steps(session: &mut Session<Global>, plan: &Plan, count: usize) {
-    for planned in plan.steps.iter().take(count) {
-        session.step(&step_of(plan, *planned));
-    }
-}
-
-/// Whether a client is as in the other session, or ended as out of memory.
-fn is_as<A: Allocator + Copy>(session: &Session<A>, other: &Session<Global>, client: u32) -> bool {
-    match session.status(client) {
-        Fed::Alive => {
-            other.status(client) == Fed::Alive
-                && session.out(client).unwrap_or(&[]) == other.out(client).unwrap_or(&[])
-                && session.store_size(client, 1) == other.store_size(client, 1)
-                && session.store_size(client, 2) == other.store_size(client, 2)
-        }
-        fed => fed == NO_MEMORY || fed == other.status(client),
-    }
-}
-
-/// Where the toplevels of those that live stand once both were mapped.
-fn places_in<A: Allocator + Copy>(session: &Session<A>) -> Places {
-    [
-        (session.status(1) == Fed::Alive).then_some(0),
-        (session.status(2) == Fed::Alive).then_some(32),
-    ]
-}
-
-/// What the tick at a place shows, or the one before it.
-fn layers_at<'a>(plan: &Plan<'a>, place: usize) -> &'a [Layer] {
-    let mut shown: &'a [Layer] = &[];
-    for planned in plan.steps.iter().take(place.saturating_add(1)) {
-        if let Planned::Tick(layers) | Planned::TickEither(layers, _) = *planned {
-            shown = layers;
-        }
-    }
-    shown
-}
-
-/// A client's toplevel stands nowhere any more.
-fn leave(places: &mut Places, client: u32) {
-    if client == 1 {
-        places[0] = None;
-    } else {
-        places[1] = None;
-    }
-}
-
-fn are_both_alive<A: Allocator + Copy>(session: &Session<A>, other: &Session<Global>) -> bool {
-    session.status(1) == other.status(1) && session.status(2) == other.status(2)
-}
-
-/// Whether a tick paints as many points as in the other session.
-fn paints_as_much<A: Allocator + Copy>(
-    session: &mut Session<A>,
-    other: &mut Session<Global>,
-) -> bool {
-    let is_same = are_both_alive(session, other);
-    let wanted = other.tick(0).damage.count();
-    session.tick(0).damage.count() == wanted || !is_same
-}
-
-/// Who ended as out of memory goes in the other session too.
-fn part_alike<A: Allocator + Copy>(session: &Session<A>, other: &mut Session<Global>) {
-    for client in [1, 2] {
-        if session.status(client) == NO_MEMORY {
-            other.gone(client);
-        }
-    }
-}
-
-/// Whether a session that stopped before a step took those before it and nothing of it: its clients are told the same, and the next frame is that tick's.
-fn is_stopped_at<A: Allocator + Copy>(
-    session: &mut Session<A>,
-    other: &mut Session<Global>,
-    plan: &Plan,
-    place: usize,
-) -> bool {
-    take_steps(other, plan, place);
-    part_alike(session, other);
-    let places = places_in(session);
-    is_as(session, other, 1)
-        && is_as(session, other, 2)
-        && paints_as_much(session, other)
-        && shows(session, layers_at(plan, place), places)
-}
-
-fn stopped<A: Allocator + Copy>(
-    alloc: Global,
-    session: &mut Session<A>,
-    plan: &Plan,
-    place: usize,
-) -> Ran {
-    let is_right = match Session::new(alloc, OUTPUT) {
-        Ok(mut other) => is_stopped_at(session, &mut other, plan, place),
-        Err(_) => false,
-    };
-    match plan.steps.get(place) {
-        Some(Planned::Connect(_)) if is_right => Ran::AtConnect,
-        Some(Planned::Tick(_) | Planned::TickEither(..)) if is_right => Ran::AtTick,
-        _ => Ran::Wrong,
-    }
-}
-
-/// Whether there is a frame of each tick and, where no client ended by itself, whether all of them are as painted.
-fn are_shown<A: Allocator>(shots: &[Shot<A>], plan: &Plan, all: bool) -> bool {
-    let mut places = [Some(0), Some(32)];
-    let mut ticks = 0usize;
-    for planned in &plan.steps {
-        if let Planned::Gone(client) = *planned {
-            leave(&mut places, client);
-        }
-        if let Planned::Tick(layers) | Planned::TickEither(layers, _) = *planned {
-            let is_right = match shots.get(ticks) {
-                Some(shot) => !all || is_painted(&shot.pixels, layers, places),
-                None => false,
-            };
-            if !is_right {
-                return false;
-            }
-            ticks = ticks.saturating_add(1);
-        }
-    }
-    shots.len() == ticks
-}
-
-fn run<A: Allocator + Copy>(
-    alloc: Global,
-    session: &mut Session<A>,
-    plan: &Plan,
-    steps: &[Step],
-) -> Ran {
-    match session.run(steps) {
-        Ok(shots) => {
-            let all = session.status(1) == Fed::Alive && session.status(2) != NO_MEMORY;
-            if are_shown(&shots, plan, all) {
-                Ran::All
-            } else {
-                Ran::Wrong
-            }
-        }
-        Err(RunError::Memory(place)) => stopped(alloc, session, plan, place),
-    }
-}
-
-fn run_with(alloc: Global, plan: &Plan, steps: &[Step], served: u64, once: bool) -> (Ran, bool) {
-    let heap = heap_of(alloc, served, once);
-    let ran = match Session::new(&heap, OUTPUT) {
-        Ok(mut session) => run(alloc, &mut session, plan, steps),
-        Err(FrameError::Memory) => Ran::NoSession,
-        Err(FrameError::BadSize) => Ran::Wrong,
-    };
-    (ran, heap.refused())
-}
-
-/// How many runs stopped at a connect, and how many at a tick.
-#[derive(Clone, Copy, Debug, PartialEq, Eq)]
-struct Stops {
-    at_connect: u32,
-    at_tick: u32,
-}
-
-/// Runs a plan with ever more allocations served, until none is refused. None where something happened that may not.
-fn stops_of(alloc: Global, plan: &Plan, steps: &[Step], once: bool) -> Option<Stops> {
-    let mut stops = Stops {
-        at_connect: 0,
-        at_tick: 0,
-    };
-    for served in 0..MANY {
-        let (ran, was_refused) = run_with(alloc, plan, steps, served, once);
-        match ran {
-            Ran::Wrong => return None,
-            Ran::AtConnect => stops.at_connect = stops.at_connect.saturating_add(1),
-            Ran::AtTick => stops.at_tick = stops.at_tick.saturating_add(1),
-            Ran::NoSession | Ran::All => {}
-        }
-        if !was_refused {
-            return if ran == Ran::All { Some(stops) } else { None };
-        }
-    }
-    None
-}
-
-/// Where runs of some acts stop with each allocation refused in turn, with all after it, and alone.
-fn all_stops_of(alloc: Global, acts: &[Act]) -> Option<(Stops, Stops)> {
-    let plan = plan_of(alloc, acts)?;
-    let steps = steps_of(alloc, &plan)?;
-    let all = stops_of(alloc, &plan, &steps, false)?;
-    let alone = stops_of(alloc, &plan, &steps, true)?;
-    Some((all, alone))
-}
-
-#[test]
-fn a_run_of_two_windows_stops_where_memory_is_refused(rt: HostRuntime) {
-    let Some((all, alone)) = all_stops_of(rt.alloc(), TWO_WINDOWS) else {
-        panic!(rt; "something happened that may not")
-    };
-    assert!(rt; all.at_connect > 0 && all.at_tick > 10, "{all:?}");
-    assert!(rt; alone.at_connect > 0 && alone.at_tick > 5, "{alone:?}");
-}
-
-#[test]
-fn a_run_with_a_subsurface_stops_where_memory_is_refused(rt: HostRuntime) {
-    let Some((all, alone)) = all_stops_of(rt.alloc(), SUBSURFACE) else {
-        panic!(rt; "something happened that may not")
-    };
-    assert!(rt; all.at_tick > 10 && alone.at_tick > 5, "{all:?} {alone:?}");
-}
-
-#[test]
-fn a_run_with_a_popup_stops_where_memory_is_refused(rt: HostRuntime) {
-    let Some((all, alone)) = all_stops_of(rt.alloc(), MENU) else {
-        panic!(rt; "something happened that may not")
-    };
-    assert!(rt; all.at_tick > 10 && alone.at_tick > 5, "{all:?} {alone:?}");
-}
-
-#[test]
-fn a_run_with_a_grab_stops_where_memory_is_refused(rt: HostRuntime) {
-    let Some((all, alone)) = all_stops_of(rt.alloc(), GRAB) else {
-        panic!(rt; "something happened that may not")
-    };
-    assert!(rt; all.at_tick > 10 && alone.at_tick > 5, "{all:?} {alone:?}");
-}
-
-#[test]
-fn a_run_of_rivals_stops_where_memory_is_refused(rt: HostRuntime) {
-    let Some((all, alone)) = all_stops_of(rt.alloc(), RIVALS) else {
-        panic!(rt; "something happened that may not")
-    };
-    assert!(rt; all.at_connect > 0 && all.at_tick > 50, "{all:?}");
-    assert!(rt; alone.at_connect > 0 && alone.at_tick > 10, "{alone:?}");
-}
-
-#[test]
-fn a_run_with_a_buffer_shown_twice_stops_where_memory_is_refused(rt: HostRuntime) {
-    let Some((all, alone)) = all_stops_of(rt.alloc(), SHOWN_TWICE) else {
-        panic!(rt; "something happened that may not")
-    };
-    assert!(rt; all.at_tick > 10 && alone.at_tick > 5, "{all:?} {alone:?}");
+    assert_eq!(rt; missed(rt.alloc(), SHOWN_TWICE), None);
 }

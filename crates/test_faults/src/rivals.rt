@@ -1,14 +1,14 @@
-//! Two clients with windows, of which the upper one has a popup that grabs by the serial of a press, and goes: the acts of both, and the pointer's between
-//! them.
+//! Two clients with windows. The upper one has a popup that grabs by the serial of a press, and
+//! goes. Here are the acts of both, and the pointer's between them.
 
 use crate::acts::{Act, Layer};
 use crate::menus::{CAPABLE, SEAT};
-use crate::recorded::{BEGINS, BEGUN, MAPS_WIDE, PARENT, WIDE_BUFFERS};
-use test_rows::begun::ANNOUNCED;
-use test_rows::rows::Message;
-use wl_wire::{Arg, Fixed};
+use crate::recorded::{MAPS_WIDE, PARENT, WIDE_BUFFERS};
+use test_rows::asks::Ask;
+use test_rows::events::Event;
 
-/// The window of the client 2, which is black, and its popup, which is black too and lies above and to the left of it.
+/// The window of the client 2, which is black, and its popup, which is black too and lies above and
+/// to the left of it.
 const ABOVE: Layer = Layer {
     client: 2,
     x: 0,
@@ -27,129 +27,62 @@ const POPUP: Layer = Layer {
     color: [0, 0, 0],
 };
 
-/// The pointer enters the upper window at (45, 45), 13 points right and below its corner, and is pressed and released there.
-const ENTERED: &[Message] = &[Message(
-    13,
-    0,
-    &[
-        Arg::Uint(2),
-        Arg::Object(6),
-        Arg::Fixed(Fixed(3328)),
-        Arg::Fixed(Fixed(3328)),
-    ],
-)];
+/// The pointer enters the upper window at (45, 45), 13 points right and below its corner, and is
+/// pressed and released there.
+const ENTERED: &[Event] = &[Event::Enter(13, 2, 6, 3328, 3328)];
 
-const PRESSED: &[Message] = &[Message(
-    13,
-    3,
-    &[Arg::Uint(3), Arg::Uint(2), Arg::Uint(272), Arg::Uint(1)],
-)];
+const PRESSED: &[Event] = &[Event::Button(13, 3, 2, 272, 1)];
 
-const RELEASED: &[Message] = &[Message(
-    13,
-    3,
-    &[Arg::Uint(5), Arg::Uint(2), Arg::Uint(272), Arg::Uint(0)],
-)];
+const RELEASED: &[Event] = &[Event::Button(13, 5, 2, 272, 0)];
 
 /// The same where nothing was asked for a popup, which is configured with the serial 4.
-const RELEASED_ALONE: &[Message] = &[Message(
-    13,
-    3,
-    &[Arg::Uint(4), Arg::Uint(2), Arg::Uint(272), Arg::Uint(0)],
-)];
+const RELEASED_ALONE: &[Event] = &[Event::Button(13, 4, 2, 272, 0)];
 
-const COMMIT_14: Message = Message(14, 6, &[]);
+const COMMIT_14: Ask = Ask::Commit(14);
 
-/// The surface 14 has the popup 17, which the positioner 16 places to the left and above, and which grabs by the serial of the press.
-pub(crate) const GRABS: &[Message] = &[
-    Message(3, 0, &[Arg::NewId(14)]),
-    Message(5, 2, &[Arg::NewId(15), Arg::Object(14)]),
-    Message(5, 1, &[Arg::NewId(16)]),
-    Message(16, 1, &[Arg::Int(8), Arg::Int(8)]),
-    Message(16, 2, &[Arg::Int(0), Arg::Int(0), Arg::Int(1), Arg::Int(1)]),
-    Message(16, 3, &[Arg::Uint(5)]),
-    Message(16, 4, &[Arg::Uint(8)]),
-    Message(16, 6, &[Arg::Int(-24), Arg::Int(-24)]),
-    Message(15, 2, &[Arg::NewId(17), Arg::Object(7), Arg::Object(16)]),
-    Message(17, 1, &[Arg::Object(12), Arg::Uint(3)]),
+/// The surface 14 has the popup 17, which the positioner 16 places to the left and above, and which
+/// grabs by the serial of the press.
+pub(crate) const GRABS: &[Ask] = &[
+    Ask::CreateSurface(3, 14),
+    Ask::GetXdgSurface(5, 15, 14),
+    Ask::CreatePositioner(5, 16),
+    Ask::SetSize(16, 8, 8),
+    Ask::SetAnchorRect(16, 0, 0, 1, 1),
+    Ask::SetAnchor(16, 5),
+    Ask::SetGravity(16, 8),
+    Ask::SetOffset(16, -24, -24),
+    Ask::GetPopup(15, 17, 7, 16),
+    Ask::Grab(17, 12, 3),
     COMMIT_14,
 ];
 
-const PLACED: &[Message] = &[
-    Message(
-        17,
-        0,
-        &[Arg::Int(-24), Arg::Int(-24), Arg::Int(8), Arg::Int(8)],
-    ),
-    Message(15, 0, &[Arg::Uint(4)]),
+const PLACED: &[Event] = &[
+    Event::PopupConfigure(17, -24, -24, 8, 8),
+    Event::Configure(15, 4),
 ];
 
 /// It is mapped with the buffer 18.
-pub(crate) const SHOWS_POPUP: &[Message] = &[
-    Message(15, 4, &[Arg::Uint(4)]),
-    Message(
-        9,
-        0,
-        &[
-            Arg::NewId(18),
-            Arg::Int(0),
-            Arg::Int(8),
-            Arg::Int(8),
-            Arg::Int(32),
-            Arg::Uint(1),
-        ],
-    ),
-    Message(14, 1, &[Arg::Object(18), Arg::Int(0), Arg::Int(0)]),
+pub(crate) const SHOWS_POPUP: &[Ask] = &[
+    Ask::AckConfigure(15, 4),
+    Ask::CreateBuffer(9, 18, 0, 8, 8, 32, 1),
+    Ask::Attach(14, 18),
     COMMIT_14,
 ];
 
 /// The pointer goes to (10, 10): from the upper window to its popup.
-const GOES_OVER: &[Message] = &[
-    Message(13, 1, &[Arg::Uint(6), Arg::Object(6)]),
-    Message(
-        13,
-        0,
-        &[
-            Arg::Uint(7),
-            Arg::Object(14),
-            Arg::Fixed(Fixed(512)),
-            Arg::Fixed(Fixed(512)),
-        ],
-    ),
-];
+const GOES_OVER: &[Event] = &[Event::Leave(13, 6, 6), Event::Enter(13, 7, 14, 512, 512)];
 
 /// It leaves the window there where that has no popup.
-const LEFT_ALONE: &[Message] = &[Message(13, 1, &[Arg::Uint(5), Arg::Object(6)])];
+const LEFT_ALONE: &[Event] = &[Event::Leave(13, 5, 6)];
 
 /// It enters a window at (0, 0) there.
-const ENTERED_BELOW: &[Message] = &[Message(
-    13,
-    0,
-    &[
-        Arg::Uint(2),
-        Arg::Object(6),
-        Arg::Fixed(Fixed(2560)),
-        Arg::Fixed(Fixed(2560)),
-    ],
-)];
+const ENTERED_BELOW: &[Event] = &[Event::Enter(13, 2, 6, 2560, 2560)];
 
-/// A window that covers a part of another's has a popup that grabs, and its client goes: then the pointer enters the other one. Where the client 1 has
-/// ended, nothing is asked for a popup. The window of the client 2 is at (0, 0) then if that of the client 1 was never mapped, and else at (32, 32).
-pub(crate) const RIVALS: &[Act] = &[
-    Act::Connects(1),
-    Act::Sends(1, BEGINS),
-    Act::Told(1, ANNOUNCED),
-    Act::Told(1, BEGUN),
-    Act::Sends(1, WIDE_BUFFERS),
-    Act::Fills(1, 1, 0, 6400, 128),
-    Act::Maps(1, MAPS_WIDE),
-    Act::Sends(1, SEAT),
-    Act::Told(1, CAPABLE),
-    Act::Shows(&[PARENT]),
-    Act::Connects(2),
-    Act::Sends(2, BEGINS),
-    Act::Told(2, ANNOUNCED),
-    Act::Told(2, BEGUN),
+/// The window of the client 1 is shown.
+pub(crate) const SHOWN: &[Act] = &[Act::Shows(&[PARENT])];
+
+/// A window of the client 2 covers a part of it, and is pressed.
+pub(crate) const RIVAL: &[Act] = &[
     Act::Sends(2, WIDE_BUFFERS),
     Act::Maps(2, MAPS_WIDE),
     Act::Sends(2, SEAT),
@@ -158,10 +91,20 @@ pub(crate) const RIVALS: &[Act] = &[
     Act::ToldAny(2, ENTERED, &[], &[]),
     Act::Presses(true),
     Act::ToldAny(2, PRESSED, &[], &[]),
+];
+
+/// It has a popup that grabs. Where the client 1 has ended, nothing is asked for a popup.
+pub(crate) const RIVAL_GRABS: &[Act] = &[
     Act::SendsBeside(2, GRABS),
     Act::ToldAny(2, PLACED, &[], &[]),
     Act::SendsBeside(2, SHOWS_POPUP),
     Act::Silent(2),
+];
+
+/// Its client goes: then the pointer enters the other window. The window of the client 2 is at (0,
+/// 0) if that of the client 1 was never mapped, and
+/// else at (32, 32).
+pub(crate) const RIVAL_GOES: &[Act] = &[
     Act::Presses(false),
     Act::ToldAny(2, RELEASED, RELEASED_ALONE, &[]),
     Act::Points(10, 10),

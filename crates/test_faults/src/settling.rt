@@ -1,32 +1,33 @@
-//! The pointer rests where the windows of two clients overlap, and what one of them sends brings its own on top or takes it away: who can't be told so
-//! ends, and the other lives on.
+//! The pointer rests where the windows of two clients overlap. What one of them sends brings its
+//! own on top or takes it away. Who can't be told so ends, and the other lives on.
 
 use crate::acts::{Act, Layer};
 use crate::menus::{CAPABLE, SEAT};
-use crate::recorded::{BEGINS, BEGUN, MAPS_WIDE, PARENT, WIDE_BUFFERS};
-use test_rows::begun::{ANNOUNCED, ATTACH_NONE, COMMIT};
-use test_rows::rows::Message;
-use wl_wire::{Arg, Fixed};
+use crate::recorded::{MAPS_WIDE, PARENT, WIDE_BUFFERS};
+use test_rows::asks::Ask;
+use test_rows::begun::{ATTACH_NONE, COMMIT};
+use test_rows::events::Event;
 
-/// wl_display.sync with the new callback 14, by turns: so many that another event takes memory where they wait.
-const SYNC: Message = Message(1, 0, &[Arg::NewId(14)]);
+/// wl_display.sync with the new callback 14, by turns: so many that another event takes memory
+/// where they wait.
+const SYNC: Ask = Ask::Sync(14);
 
-const SYNCS: &[Message] = &[
+const SYNCS: &[Ask] = &[
     SYNC, SYNC, SYNC, SYNC, SYNC, SYNC, SYNC, SYNC, SYNC, SYNC, SYNC, SYNC, SYNC, SYNC, SYNC, SYNC,
     SYNC, SYNC, SYNC, SYNC, SYNC,
 ];
 
 /// What answers seven of them.
-const SEVEN: &[Message] = &[
+const SEVEN: &[Event] = &[
     CALLED, GIVEN_BACK, CALLED, GIVEN_BACK, CALLED, GIVEN_BACK, CALLED, GIVEN_BACK, CALLED,
     GIVEN_BACK, CALLED, GIVEN_BACK, CALLED, GIVEN_BACK,
 ];
 
-const CALLED: Message = Message(14, 0, &[Arg::Uint(0)]);
+const CALLED: Event = Event::Done(14, 0);
 
-const GIVEN_BACK: Message = Message(1, 1, &[Arg::Uint(14)]);
+const GIVEN_BACK: Event = Event::DeleteId(14);
 
-const UNMAPS: &[Message] = &[ATTACH_NONE, COMMIT];
+const UNMAPS: &[Ask] = &[ATTACH_NONE, COMMIT];
 
 /// The window of the client 2, which is black.
 const ABOVE: Layer = Layer {
@@ -39,68 +40,37 @@ const ABOVE: Layer = Layer {
 };
 
 /// The pointer enters the surface 6 with the serial 2 at (36, 36), or at (4, 4).
-const ENTERED: Message = Message(
-    13,
-    0,
-    &[
-        Arg::Uint(2),
-        Arg::Object(6),
-        Arg::Fixed(Fixed(9216)),
-        Arg::Fixed(Fixed(9216)),
-    ],
-);
+const ENTERED: Event = Event::Enter(13, 2, 6, 9216, 9216);
 
-const ENTERED_ABOVE: Message = Message(
-    13,
-    0,
-    &[
-        Arg::Uint(2),
-        Arg::Object(6),
-        Arg::Fixed(Fixed(1024)),
-        Arg::Fixed(Fixed(1024)),
-    ],
-);
+const ENTERED_ABOVE: Event = Event::Enter(13, 2, 6, 1024, 1024);
 
 /// It is left with the serial 3, and entered again at (36, 36).
-const LEFT: Message = Message(13, 1, &[Arg::Uint(3), Arg::Object(6)]);
+const LEFT: Event = Event::Leave(13, 3, 6);
 
-const ENTERED_AGAIN: Message = Message(
-    13,
-    0,
-    &[
-        Arg::Uint(4),
-        Arg::Object(6),
-        Arg::Fixed(Fixed(9216)),
-        Arg::Fixed(Fixed(9216)),
-    ],
-);
+const ENTERED_AGAIN: Event = Event::Enter(13, 4, 6, 9216, 9216);
 
-const RELEASED_10: Message = Message(10, 0, &[]);
+const RELEASED_10: Event = Event::Release(10);
 
-/// The window of the client 2 is mapped above that of the client 1, where the pointer rests. The client 1 is left, and the client 2 is entered; where that one
-/// isn't mapped the client 1 isn't left, and where it can't be told it is entered again. Where the client 1 was never mapped, that of the client 2 is at the corner.
-pub(crate) const LEFT_BELOW: &[Act] = &[
-    Act::Connects(1),
-    Act::Sends(1, BEGINS),
-    Act::Told(1, ANNOUNCED),
-    Act::Told(1, BEGUN),
-    Act::Sends(1, WIDE_BUFFERS),
-    Act::Fills(1, 1, 0, 6400, 128),
-    Act::Maps(1, MAPS_WIDE),
-    Act::Sends(1, SEAT),
-    Act::Told(1, CAPABLE),
+/// The pointer rests over the window of the client 1, for which much waits.
+pub(crate) const RESTING: &[Act] = &[
     Act::Points(36, 36),
     Act::Told(1, &[ENTERED]),
     Act::Sends(1, SYNCS),
     Act::Shows(&[PARENT]),
-    Act::Connects(2),
-    Act::Sends(2, BEGINS),
-    Act::Told(2, ANNOUNCED),
-    Act::Told(2, BEGUN),
+];
+
+/// The client 2 has buffers and a wl_pointer, and its window is mapped above that of the client 1.
+pub(crate) const READY: &[Act] = &[
     Act::Sends(2, WIDE_BUFFERS),
     Act::Sends(2, SEAT),
     Act::Told(2, CAPABLE),
     Act::Maps(2, MAPS_WIDE),
+];
+
+/// The client 1 is left, and the client 2 is entered. Where that one isn't mapped the client 1
+/// isn't left, and where it can't be told it is entered
+/// again. Where the client 1 was never mapped, the window of the client 2 is at the corner.
+pub(crate) const LEFT_BELOW: &[Act] = &[
     Act::Told(1, SEVEN),
     Act::Told(1, SEVEN),
     Act::Told(1, SEVEN),
@@ -111,27 +81,12 @@ pub(crate) const LEFT_BELOW: &[Act] = &[
     Act::Silent(2),
 ];
 
-/// The window of the client 2, above that of the client 1, is unmapped below the pointer. The client 2 is left, and the client 1 is entered.
+/// Much waits for the client 1, whose window is shown.
+pub(crate) const WAITING: &[Act] = &[Act::Sends(1, SYNCS), Act::Shows(&[PARENT])];
+
+/// The window of the client 2 is unmapped below the pointer. The client 2 is left, and the client 1
+/// is entered.
 pub(crate) const ENTERED_ANEW: &[Act] = &[
-    Act::Connects(1),
-    Act::Sends(1, BEGINS),
-    Act::Told(1, ANNOUNCED),
-    Act::Told(1, BEGUN),
-    Act::Sends(1, WIDE_BUFFERS),
-    Act::Fills(1, 1, 0, 6400, 128),
-    Act::Maps(1, MAPS_WIDE),
-    Act::Sends(1, SEAT),
-    Act::Told(1, CAPABLE),
-    Act::Sends(1, SYNCS),
-    Act::Shows(&[PARENT]),
-    Act::Connects(2),
-    Act::Sends(2, BEGINS),
-    Act::Told(2, ANNOUNCED),
-    Act::Told(2, BEGUN),
-    Act::Sends(2, WIDE_BUFFERS),
-    Act::Sends(2, SEAT),
-    Act::Told(2, CAPABLE),
-    Act::Maps(2, MAPS_WIDE),
     Act::Points(36, 36),
     Act::ToldAny(2, &[ENTERED_ABOVE], &[ENTERED_ABOVE], &[ENTERED]),
     Act::Shows(&[PARENT, ABOVE]),

@@ -1,59 +1,29 @@
-//! The pointer rests where the windows of two clients overlap, and that of the client 2 comes or goes: the client 1, for which too much waits to be told so,
-//! ends, its window is to be painted over, and the client 2 is told what it should be.
+//! The pointer rests where the windows of two clients overlap, and that of the client 2 comes or
+//! goes. For the client 1 too much waits to be told so: it ends, and its window is to be painted
+//! over. The client 2 is told what it should be.
 
+use test_rows::asks::{Ask, Interface};
 use test_rows::begun::{
     ATTACH_10, ATTACH_NONE, COMMIT, GREEN, MAPS, RED_10, SEATED, SECOND, missed_after_buffers,
 };
-use test_rows::rows::{Case, Message, Pixel, Row};
+use test_rows::events::Event;
+use test_rows::rows::{Case, Pixel, Row};
 use wl_session::{Cause, Done, Fed, Step};
-use wl_wire::{Arg, Fixed};
 
-/// The client 2 has the buffer 10 of 40 by 40 pixels, all green, and the wl_pointer 13 of the wl_seat 12.
+/// The client 2 has the buffer 10 of 40 by 40 pixels, all green, and the wl_pointer 13 of the
+/// wl_seat 12.
 const READY: &[Row] = &[
-    Row::From(
-        2,
-        Message(
-            9,
-            0,
-            &[
-                Arg::NewId(10),
-                Arg::Int(0),
-                Arg::Int(40),
-                Arg::Int(40),
-                Arg::Int(160),
-                Arg::Uint(1),
-            ],
-        ),
-    ),
+    Row::From(2, Ask::CreateBuffer(9, 10, 0, 40, 40, 160, 1)),
     Row::Fills(2, 1, 0, 1600, GREEN),
-    Row::From(
-        2,
-        Message(
-            2,
-            0,
-            &[
-                Arg::Uint(5),
-                Arg::Str(b"wl_seat"),
-                Arg::Uint(1),
-                Arg::NewId(12),
-            ],
-        ),
-    ),
-    Row::From(2, Message(12, 0, &[Arg::NewId(13)])),
+    Row::From(2, Ask::Bind(2, 5, Interface::Seat, 1, 12)),
+    Row::From(2, Ask::GetPointer(12, 13)),
     Row::TakesOf(2),
 ];
 
 /// Its window is mapped at (32, 32), above that of the client 1.
 const COVERS: &[Row] = &[
     Row::From(2, ATTACH_10),
-    Row::From(
-        2,
-        Message(
-            6,
-            2,
-            &[Arg::Int(0), Arg::Int(0), Arg::Int(40), Arg::Int(40)],
-        ),
-    ),
+    Row::From(2, Ask::Damage(6, 0, 0, 40, 40)),
     Row::From(2, COMMIT),
 ];
 
@@ -68,24 +38,15 @@ const COMES: &[Row] = &[Row::Calls(
 )];
 
 /// The surface 6 of the client 2 is entered at (4, 4), in 256ths of a pixel, and left.
-const ENTERED: Message = Message(
-    13,
-    0,
-    &[
-        Arg::Uint(2),
-        Arg::Object(6),
-        Arg::Fixed(Fixed(1024)),
-        Arg::Fixed(Fixed(1024)),
-    ],
-);
+const ENTERED: Event = Event::Enter(13, 2, 6, 1024, 1024);
 
-const LEFT: Message = Message(13, 1, &[Arg::Uint(3), Arg::Object(6)]);
+const LEFT: Event = Event::Leave(13, 3, 6);
 
-const RELEASED_10: Message = Message(10, 0, &[]);
+const RELEASED_10: Event = Event::Release(10);
 
-const MAKES_REGION: Message = Message(3, 1, &[Arg::NewId(16)]);
+const MAKES_REGION: Ask = Ask::CreateRegion(3, 16);
 
-const DESTROYS_REGION: Message = Message(16, 0, &[]);
+const DESTROYS_REGION: Ask = Ask::RegionDestroy(16);
 
 /// With 1,048,572 bytes that wait for the client 1 there is no room for wl_pointer.leave, of 16.
 const NOT_LEFT: &[Row] = &[
@@ -144,7 +105,7 @@ const NONE_SEEN: &[Row] = &[
             Pixel(63, 47, 0, 0, 0),
         ],
     ),
-    Row::Shows(0, 0, &[]),
+    Row::Paints(0, 0),
 ];
 
 /// Each begins with a toplevel of the client 1 that can show the buffer 10.

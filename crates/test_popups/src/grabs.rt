@@ -1,4 +1,5 @@
-//! Grabs of popups: by which serials they are taken, and what becomes of a popup whose grab is refused (xdg-shell.xml, xdg_popup.grab).
+//! Grabs of popups: by which serials they are taken, and what becomes of a popup whose grab is
+//! refused (xdg-shell.xml, xdg_popup.grab).
 
 use crate::parts::{Case, Part};
 use crate::pointing::{PRESS, RELEASE, SECOND_PRESS, TO_NOTHING};
@@ -6,69 +7,65 @@ use crate::support::{
     ATTACH_18, BUFFER_18, COMMIT_14, DETACH_14, GET_POPUP, PLACED, RELEASED_18,
     missed_after_toplevel,
 };
-use test_rows::rows::{Message, Pixel, Row};
+use test_rows::asks::Ask;
+use test_rows::events::Event;
+use test_rows::rows::{Pixel, Row};
 use wl_session::{Cause, Fed};
-use wl_wire::Arg;
 
 /// xdg_popup.popup_done of the popup 17.
-pub(crate) const DISMISSED: Message = Message(17, 1, &[]);
+pub(crate) const DISMISSED: Event = Event::PopupDone(17);
 
 /// The popup 17 is made.
-pub(crate) const GETS: &[Row] = &[Row::Sends(GET_POPUP), Row::Waits(1, Some(&[]))];
+pub(crate) const GETS: &[Row] = &[Row::Sends(GET_POPUP), Row::Silent(1)];
 
 /// It grabs with the serial of the first press, or of its release: nothing is told of it.
-pub(crate) const GRAB_3: Message = Message(17, 1, &[Arg::Object(12), Arg::Uint(3)]);
+pub(crate) const GRAB_3: Ask = Ask::Grab(17, 12, 3);
 
-const GRAB_4: Message = Message(17, 1, &[Arg::Object(12), Arg::Uint(4)]);
+const GRAB_4: Ask = Ask::Grab(17, 12, 4);
 
-pub(crate) const GRABS: &[Row] = &[Row::Accepts(GRAB_3, &[])];
+pub(crate) const GRABS: &[Row] = &[Row::Untold(GRAB_3)];
 
-const GRABS_4: &[Row] = &[Row::Accepts(GRAB_4, &[])];
+const GRABS_4: &[Row] = &[Row::Untold(GRAB_4)];
 
 /// With these serials its grab is refused, and it is dismissed at once.
 const REFUSED_3: &[Row] = &[Row::Accepts(GRAB_3, &[DISMISSED])];
 
 const REFUSED_4: &[Row] = &[Row::Accepts(GRAB_4, &[DISMISSED])];
 
-const REFUSED_2: &[Row] = &[Row::Accepts(
-    Message(17, 1, &[Arg::Object(12), Arg::Uint(2)]),
-    &[DISMISSED],
-)];
+const REFUSED_2: &[Row] = &[Row::Accepts(Ask::Grab(17, 12, 2), &[DISMISSED])];
 
 /// The serial of the toplevel's first configure is none of a press.
-const GRAB_1: Message = Message(17, 1, &[Arg::Object(12), Arg::Uint(1)]);
+const GRAB_1: Ask = Ask::Grab(17, 12, 1);
 
 const REFUSED_1: &[Row] = &[Row::Accepts(GRAB_1, &[DISMISSED])];
 
-const REFUSED_5: &[Row] = &[Row::Accepts(
-    Message(17, 1, &[Arg::Object(12), Arg::Uint(5)]),
-    &[DISMISSED],
-)];
+const REFUSED_5: &[Row] = &[Row::Accepts(Ask::Grab(17, 12, 5), &[DISMISSED])];
 
 /// A popup that was dismissed isn't configured, nor is it shown: its commits have no effect.
 pub(crate) const STAYS_DISMISSED: &[Row] = &[
-    Row::Accepts(COMMIT_14, &[]),
+    Row::Untold(COMMIT_14),
     Row::Sends(BUFFER_18),
     Row::Sends(ATTACH_18),
-    Row::Accepts(COMMIT_14, &[]),
+    Row::Untold(COMMIT_14),
     Row::Shows(0, 0, &[Pixel(40, 40, 0, 0, 0)]),
 ];
 
 /// Nor is it told again that it was dismissed, whatever it grabs with.
 pub(crate) const GRABS_DISMISSED: &[Row] = &[
-    Row::Accepts(GRAB_3, &[]),
-    Row::Accepts(GRAB_4, &[]),
-    Row::Accepts(COMMIT_14, &[]),
+    Row::Untold(GRAB_3),
+    Row::Untold(GRAB_4),
+    Row::Untold(COMMIT_14),
 ];
 
-/// The popup is placed and mapped after that, with the serial 5 of its configure where a press and its release were told.
+/// The popup is placed and mapped after that, with the serial 5 of its configure where a press and
+/// its release were told.
 pub(crate) const MAPS_5: &[Row] = &[
-    Row::Accepts(COMMIT_14, &[PLACED, Message(15, 0, &[Arg::Uint(5)])]),
-    Row::Sends(Message(15, 4, &[Arg::Uint(5)])),
+    Row::Accepts(COMMIT_14, &[PLACED, Event::Configure(15, 5)]),
+    Row::Sends(Ask::AckConfigure(15, 5)),
     Row::Sends(BUFFER_18),
     Row::Sends(ATTACH_18),
     Row::Sends(COMMIT_14),
-    Row::Waits(1, Some(&[])),
+    Row::Silent(1),
     Row::Shows(
         64,
         64,
@@ -76,11 +73,12 @@ pub(crate) const MAPS_5: &[Row] = &[
     ),
 ];
 
-/// The pointer leaves the toplevel for where nothing is, and a press there dismisses the popup: its points are painted, and no others. Another press
+/// The pointer leaves the toplevel for where nothing is, and a press there dismisses the popup: its
+/// points are painted, and no others. Another press
 /// dismisses nothing.
 pub(crate) const DISMISSES: &[Row] = &[
     TO_NOTHING,
-    Row::ToldOf(1, &[Message(13, 1, &[Arg::Uint(6), Arg::Object(6)])]),
+    Row::ToldOf(1, &[Event::Leave(13, 6, 6)]),
     PRESS,
     Row::ToldOf(1, &[DISMISSED]),
     Row::Shows(
@@ -93,34 +91,29 @@ pub(crate) const DISMISSES: &[Row] = &[
         ],
     ),
     RELEASE,
-    Row::Waits(1, Some(&[])),
+    Row::Silent(1),
     PRESS,
-    Row::Waits(1, Some(&[])),
-    Row::Shows(0, 0, &[]),
+    Row::Silent(1),
+    Row::Paints(0, 0),
 ];
 
-/// The second button is pressed and told with the serial 4, so that the press before it isn't the latest.
+/// The second button is pressed and told with the serial 4, so that the press before it isn't the
+/// latest.
 const PRESSES_SECOND: &[Row] = &[
     SECOND_PRESS,
-    Row::ToldOf(
-        1,
-        &[Message(
-            13,
-            3,
-            &[Arg::Uint(4), Arg::Uint(15), Arg::Uint(273), Arg::Uint(1)],
-        )],
-    ),
+    Row::ToldOf(1, &[Event::Button(13, 4, 15, 273, 1)]),
 ];
 
 /// The button is pressed and released again, with the serials 5 and 6.
 const PRESSES_AGAIN: &[Row] = &[PRESS, Row::Takes, RELEASE, Row::Takes];
 
-/// A press of a button that is down, or a release of one that isn't, is ignored, and the serials stay.
-const PRESSES_IN_VAIN: &[Row] = &[RELEASE, Row::Waits(1, Some(&[]))];
+/// A press of a button that is down, or a release of one that isn't, is ignored, and the serials
+/// stay.
+const PRESSES_IN_VAIN: &[Row] = &[RELEASE, Row::Silent(1)];
 
 /// A popup that is mapped can't grab: its client ends, and its windows go.
 const GRABS_MAPPED: &[Row] = &[
-    Row::Shows(64, 64, &[]),
+    Row::Paints(64, 64),
     Row::Errs(GRAB_1, 17, 0),
     Row::ErrorTold(17, 0, b"invalid_grab"),
     Row::Is(
@@ -139,14 +132,11 @@ const GRABS_MAPPED_AGAIN: &[Row] = &[
     Row::ErrorTold(17, 0, b"invalid_grab"),
 ];
 
-/// The toplevel goes, and the popup with it; its grab has no effect then, however right its serial is. The pointer leaves the toplevel's surface.
+/// The toplevel goes, and the popup with it; its grab has no effect then, however right its serial
+/// is. The pointer leaves the toplevel's surface.
 const TOPLEVEL_GOES: &[Row] = &[Row::Accepts(
-    Message(8, 0, &[]),
-    &[
-        Message(1, 1, &[Arg::Uint(8)]),
-        DISMISSED,
-        Message(13, 1, &[Arg::Uint(5), Arg::Object(6)]),
-    ],
+    Ask::ToplevelDestroy(8),
+    &[Event::DeleteId(8), DISMISSED, Event::Leave(13, 5, 6)],
 )];
 
 /// The popup with a grab is unmapped, which ends the grab.
@@ -158,23 +148,17 @@ const UNMAPS: &[Row] = &[
 
 /// It is mapped again, with the next configure.
 const MAPS_AGAIN: &[Row] = &[
-    Row::Accepts(COMMIT_14, &[PLACED, Message(15, 0, &[Arg::Uint(6)])]),
-    Row::Sends(Message(15, 4, &[Arg::Uint(6)])),
+    Row::Accepts(COMMIT_14, &[PLACED, Event::Configure(15, 6)]),
+    Row::Sends(Ask::AckConfigure(15, 6)),
     Row::Sends(ATTACH_18),
     Row::Sends(COMMIT_14),
     Row::Shows(64, 64, &[Pixel(40, 40, 255, 0, 0)]),
 ];
 
 /// The pointer leaves the toplevel after that.
-const LEAVES_LATER: &[Row] = &[
-    TO_NOTHING,
-    Row::ToldOf(1, &[Message(13, 1, &[Arg::Uint(7), Arg::Object(6)])]),
-];
+const LEAVES_LATER: &[Row] = &[TO_NOTHING, Row::ToldOf(1, &[Event::Leave(13, 7, 6)])];
 
-const LEAVES_UNMAPPED: &[Row] = &[
-    TO_NOTHING,
-    Row::ToldOf(1, &[Message(13, 1, &[Arg::Uint(6), Arg::Object(6)])]),
-];
+const LEAVES_UNMAPPED: &[Row] = &[TO_NOTHING, Row::ToldOf(1, &[Event::Leave(13, 6, 6)])];
 
 /// A press where nothing is dismisses the popup that is mapped again and grabbed anew.
 const DISMISSES_LATER: &[Row] = &[
@@ -185,15 +169,16 @@ const DISMISSES_LATER: &[Row] = &[
 
 /// xdg_popup.destroy of the popup with a grab.
 const POPUP_GOES: &[Row] = &[
-    Row::Accepts(Message(17, 0, &[]), &[Message(1, 1, &[Arg::Uint(17)])]),
+    Row::Accepts(Ask::PopupDestroy(17), &[Event::DeleteId(17)]),
     Row::Shows(64, 64, &[Pixel(40, 40, 0, 0, 0)]),
 ];
 
-/// The popup isn't mapped yet, and was not placed: a press where nothing is dismisses it all the same, and nothing is painted.
+/// The popup isn't mapped yet, and was not placed: a press where nothing is dismisses it all the
+/// same, and nothing is painted.
 pub(crate) const DISMISSES_UNMAPPED: &[Row] = &[
     PRESS,
     Row::ToldOf(1, &[DISMISSED]),
-    Row::Shows(0, 0, &[]),
+    Row::Paints(0, 0),
 ];
 
 /// By the serials of a press and of a release, and by none.

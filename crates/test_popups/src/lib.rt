@@ -1,5 +1,7 @@
-//! Tests of popups in a session, by tables of what is done in one and what is wanted of it: where they stand, what is painted again as they come,
-//! change and go, what is told of them, how they are placed anew, how their requests are refused, and how they grab and are dismissed.
+//! Tests of popups in a session, by tables of what is done in one and what is wanted of it. They
+//! are about where popups stand, what is painted again as they come, change and go, and what is
+//! told of them. Others are about how they are placed anew, how their requests are refused, and how
+//! they grab and are dismissed.
 #![tactic(auto)]
 
 #[cfg(test)]

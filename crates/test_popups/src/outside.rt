@@ -1,4 +1,5 @@
-//! Presses while a client's popups grab: which of them dismiss, which popups go, in which order, and what is painted and told then (xdg-shell.xml,
+//! Presses while a client's popups grab: which of them dismiss, which popups go, in which order,
+//! and what is painted and told then (xdg-shell.xml,
 //! xdg_popup.grab).
 
 use crate::grabs::DISMISSED;
@@ -8,133 +9,76 @@ use crate::submenus::{ATTACH_25, COMMIT_22};
 use crate::support::{
     ATTACH_18, BUFFER_18, COMMIT_14, DETACH_14, PLACED, RELEASED_18, missed_after_toplevel,
 };
-use test_rows::rows::{Message, Pixel, Row};
+use test_rows::asks::Ask;
+use test_rows::events::Event;
+use test_rows::rows::{Pixel, Row};
 use wl_session::{Done, Step};
-use wl_wire::{Arg, Fixed};
 
-/// The popup 17 is mapped at (40, 40), with the serial 4 of its configure where just a press was told.
+/// The popup 17 is mapped at (40, 40), with the serial 4 of its configure where just a press was
+/// told.
 pub(crate) const MAPS_4: &[Row] = &[
-    Row::Accepts(COMMIT_14, &[PLACED, Message(15, 0, &[Arg::Uint(4)])]),
-    Row::Sends(Message(15, 4, &[Arg::Uint(4)])),
+    Row::Accepts(COMMIT_14, &[PLACED, Event::Configure(15, 4)]),
+    Row::Sends(Ask::AckConfigure(15, 4)),
     Row::Sends(BUFFER_18),
     Row::Sends(ATTACH_18),
     Row::Sends(COMMIT_14),
-    Row::Waits(1, Some(&[])),
+    Row::Silent(1),
     Row::Shows(64, 64, &[Pixel(40, 40, 255, 0, 0)]),
 ];
 
 /// The button is released over the toplevel, with the serial 5.
-const RELEASES_5: &[Row] = &[
-    RELEASE,
-    Row::ToldOf(
-        1,
-        &[Message(
-            13,
-            3,
-            &[Arg::Uint(5), Arg::Uint(13), Arg::Uint(272), Arg::Uint(0)],
-        )],
-    ),
-];
+const RELEASES_5: &[Row] = &[RELEASE, Row::ToldOf(1, &[Event::Button(13, 5, 13, 272, 0)])];
 
 /// The pointer goes to the popup, which is pressed: nothing is dismissed, and nothing is painted.
 const ENTERS_POPUP: &[Row] = &[
     TO_POPUP,
     Row::ToldOf(
         1,
-        &[
-            Message(13, 1, &[Arg::Uint(6), Arg::Object(6)]),
-            Message(
-                13,
-                0,
-                &[
-                    Arg::Uint(7),
-                    Arg::Object(14),
-                    Arg::Fixed(Fixed(512)),
-                    Arg::Fixed(Fixed(768)),
-                ],
-            ),
-        ],
+        &[Event::Leave(13, 6, 6), Event::Enter(13, 7, 14, 512, 768)],
     ),
 ];
 
 const PRESSES_POPUP: &[Row] = &[
     PRESS,
-    Row::ToldOf(
-        1,
-        &[Message(
-            13,
-            3,
-            &[Arg::Uint(8), Arg::Uint(11), Arg::Uint(272), Arg::Uint(1)],
-        )],
-    ),
+    Row::ToldOf(1, &[Event::Button(13, 8, 11, 272, 1)]),
     Row::Shows(0, 0, &[Pixel(40, 40, 255, 0, 0)]),
 ];
 
-/// While the button is down the popup keeps the focus. The other button is pressed where nothing is: the popup is dismissed, is told of the button,
+/// While the button is down the popup keeps the focus. The other button is pressed where nothing
+/// is: the popup is dismissed, is told of the button,
 /// and is left.
 const DISMISSES_FOCUS: &[Row] = &[
     TO_NOTHING,
-    Row::ToldOf(
-        1,
-        &[Message(
-            13,
-            2,
-            &[
-                Arg::Uint(8),
-                Arg::Fixed(Fixed(5120)),
-                Arg::Fixed(Fixed(-9216)),
-            ],
-        )],
-    ),
+    Row::ToldOf(1, &[Event::Motion(13, 8, 5120, -9216)]),
     SECOND_PRESS,
     Row::ToldOf(
         1,
         &[
             DISMISSED,
-            Message(
-                13,
-                3,
-                &[Arg::Uint(9), Arg::Uint(15), Arg::Uint(273), Arg::Uint(1)],
-            ),
-            Message(13, 1, &[Arg::Uint(10), Arg::Object(14)]),
+            Event::Button(13, 9, 15, 273, 1),
+            Event::Leave(13, 10, 14),
         ],
     ),
     Row::Shows(64, 64, &[Pixel(40, 40, 0, 0, 0)]),
     RELEASE,
-    Row::Waits(1, Some(&[])),
+    Row::Silent(1),
 ];
 
 /// A press of the toplevel dismisses nothing: its surface is one of the client's.
 const PRESSES_TOPLEVEL: &[Row] = &[
     PRESS,
-    Row::ToldOf(
-        1,
-        &[Message(
-            13,
-            3,
-            &[Arg::Uint(6), Arg::Uint(11), Arg::Uint(272), Arg::Uint(1)],
-        )],
-    ),
+    Row::ToldOf(1, &[Event::Button(13, 6, 11, 272, 1)]),
     Row::Shows(0, 0, &[Pixel(40, 40, 255, 0, 0)]),
 ];
 
-/// A button is down that the toplevel was told of, and the pointer goes where nothing is. A press of the other button there dismisses by what it
+/// A button is down that the toplevel was told of, and the pointer goes where nothing is. A press
+/// of the other button there dismisses by what it
 /// hits, and is told to the toplevel, which keeps the focus.
 const DISMISSES_HELD: &[Row] = &[
     TO_NOTHING,
     Row::Takes,
     SECOND_PRESS,
-    Row::ToldOf(
-        1,
-        &[
-            DISMISSED,
-            Message(
-                13,
-                3,
-                &[Arg::Uint(5), Arg::Uint(15), Arg::Uint(273), Arg::Uint(1)],
-            ),
-        ],
-    ),
+    Row::ToldOf(1, &[DISMISSED, Event::Button(13, 5, 15, 273, 1)]),
     Row::Shows(64, 64, &[Pixel(40, 40, 0, 0, 0)]),
 ];
 
@@ -143,7 +87,7 @@ const IGNORED: &[Row] = &[
     TO_NOTHING,
     Row::Takes,
     PRESS,
-    Row::Waits(1, Some(&[])),
+    Row::Silent(1),
     Row::Shows(0, 0, &[Pixel(40, 40, 255, 0, 0)]),
 ];
 
@@ -154,33 +98,28 @@ const RELEASES_OUTSIDE: &[Row] = &[
     RELEASE,
     Row::ToldOf(
         1,
-        &[
-            Message(
-                13,
-                3,
-                &[Arg::Uint(5), Arg::Uint(13), Arg::Uint(272), Arg::Uint(0)],
-            ),
-            Message(13, 1, &[Arg::Uint(6), Arg::Object(6)]),
-        ],
+        &[Event::Button(13, 5, 13, 272, 0), Event::Leave(13, 6, 6)],
     ),
     Row::Shows(0, 0, &[Pixel(40, 40, 255, 0, 0)]),
 ];
 
-/// A second toplevel of the client, the buffer 11 at (32, 32): the surface 26 with its xdg_surface 27 and its toplevel 28.
+/// A second toplevel of the client, the buffer 11 at (32, 32): the surface 26 with its xdg_surface
+/// 27 and its toplevel 28.
 const SECOND_TOPLEVEL: &[Row] = &[
-    Row::Sends(Message(3, 0, &[Arg::NewId(26)])),
-    Row::Sends(Message(5, 2, &[Arg::NewId(27), Arg::Object(26)])),
-    Row::Sends(Message(27, 1, &[Arg::NewId(28)])),
-    Row::Sends(Message(26, 6, &[])),
+    Row::Sends(Ask::CreateSurface(3, 26)),
+    Row::Sends(Ask::GetXdgSurface(5, 27, 26)),
+    Row::Sends(Ask::GetToplevel(27, 28)),
+    Row::Sends(Ask::Commit(26)),
     Row::Takes,
-    Row::Sends(Message(27, 4, &[Arg::Uint(2)])),
-    Row::Sends(Message(26, 1, &[Arg::Object(11), Arg::Int(0), Arg::Int(0)])),
-    Row::Sends(Message(26, 6, &[])),
-    Row::Waits(1, Some(&[])),
+    Row::Sends(Ask::AckConfigure(27, 2)),
+    Row::Sends(Ask::Attach(26, 11)),
+    Row::Sends(Ask::Commit(26)),
+    Row::Silent(1),
     Row::Shows(1024, 1024, &[Pixel(32, 32, 0, 0, 0)]),
 ];
 
-/// The toplevel below it is pressed, which raises it, and its popup grabs with the serial 4 of that. The popup stands above the other toplevel.
+/// The toplevel below it is pressed, which raises it, and its popup grabs with the serial 4 of
+/// that. The popup stands above the other toplevel.
 const PRESSES_BELOW: &[Row] = &[
     TO_TOPLEVEL,
     Row::Takes,
@@ -189,19 +128,20 @@ const PRESSES_BELOW: &[Row] = &[
     Row::Shows(64, 1600, &[Pixel(32, 32, 255, 0, 0)]),
 ];
 
-const GRABS_4: &[Row] = &[Row::Accepts(Message(17, 1, &[Arg::Object(12), Arg::Uint(4)]), &[])];
+const GRABS_4: &[Row] = &[Row::Untold(Ask::Grab(17, 12, 4))];
 
 const MAPS_5: &[Row] = &[
-    Row::Accepts(COMMIT_14, &[PLACED, Message(15, 0, &[Arg::Uint(5)])]),
-    Row::Sends(Message(15, 4, &[Arg::Uint(5)])),
+    Row::Accepts(COMMIT_14, &[PLACED, Event::Configure(15, 5)]),
+    Row::Sends(Ask::AckConfigure(15, 5)),
     Row::Sends(BUFFER_18),
     Row::Sends(ATTACH_18),
     Row::Sends(COMMIT_14),
-    Row::Waits(1, Some(&[])),
+    Row::Silent(1),
     Row::Shows(64, 64, &[Pixel(40, 40, 255, 0, 0), Pixel(48, 48, 0, 0, 0)]),
 ];
 
-/// The other toplevel is pressed, which raises it and dismisses nothing, since it is of the same client.
+/// The other toplevel is pressed, which raises it and dismisses nothing, since it is of the same
+/// client.
 const PRESSES_SECOND_TOPLEVEL: &[Row] = &[
     RELEASE,
     Row::Takes,
@@ -215,69 +155,41 @@ const PRESSES_SECOND_TOPLEVEL: &[Row] = &[
     ),
     Row::Takes,
     PRESS,
-    Row::ToldOf(
-        1,
-        &[Message(
-            13,
-            3,
-            &[Arg::Uint(9), Arg::Uint(11), Arg::Uint(272), Arg::Uint(1)],
-        )],
-    ),
+    Row::ToldOf(1, &[Event::Button(13, 9, 11, 272, 1)]),
     Row::Shows(128, 1024, &[Pixel(32, 32, 0, 0, 0), Pixel(40, 40, 0, 0, 0)]),
 ];
 
 /// The surface 22 with its xdg_surface 23.
 pub(crate) const SURFACE_22: &[Row] = &[
-    Row::Sends(Message(3, 0, &[Arg::NewId(22)])),
-    Row::Sends(Message(5, 2, &[Arg::NewId(23), Arg::Object(22)])),
+    Row::Sends(Ask::CreateSurface(3, 22)),
+    Row::Sends(Ask::GetXdgSurface(5, 23, 22)),
 ];
 
 /// It has the popup 24 on the popup 17, or on the toplevel.
-pub(crate) const GETS_SUBMENU: &[Row] = &[Row::Accepts(
-    Message(23, 2, &[Arg::NewId(24), Arg::Object(15), Arg::Object(21)]),
-    &[],
-)];
+pub(crate) const GETS_SUBMENU: &[Row] = &[Row::Untold(Ask::GetPopup(23, 24, 15, 21))];
 
-const GETS_BESIDE: &[Row] = &[Row::Accepts(
-    Message(23, 2, &[Arg::NewId(24), Arg::Object(7), Arg::Object(21)]),
-    &[],
-)];
+const GETS_BESIDE: &[Row] = &[Row::Untold(Ask::GetPopup(23, 24, 7, 21))];
 
-const GRAB_24: Message = Message(24, 1, &[Arg::Object(12), Arg::Uint(3)]);
+const GRAB_24: Ask = Ask::Grab(24, 12, 3);
 
-pub(crate) const SUBMENU_GRABS: &[Row] = &[Row::Accepts(GRAB_24, &[])];
+pub(crate) const SUBMENU_GRABS: &[Row] = &[Row::Untold(GRAB_24)];
 
-const SUBMENU_DISMISSED: Message = Message(24, 1, &[]);
+const SUBMENU_DISMISSED: Event = Event::PopupDone(24);
 
 /// It is mapped with the buffer 25 of 4 by 4 pixels, at (32, 32).
 pub(crate) const SUBMENU_MAPS: &[Row] = &[
     Row::Accepts(
         COMMIT_22,
         &[
-            Message(
-                24,
-                0,
-                &[Arg::Int(-8), Arg::Int(-8), Arg::Int(4), Arg::Int(4)],
-            ),
-            Message(23, 0, &[Arg::Uint(5)]),
+            Event::PopupConfigure(24, -8, -8, 4, 4),
+            Event::Configure(23, 5),
         ],
     ),
-    Row::Sends(Message(23, 4, &[Arg::Uint(5)])),
-    Row::Sends(Message(
-        9,
-        0,
-        &[
-            Arg::NewId(25),
-            Arg::Int(6400),
-            Arg::Int(4),
-            Arg::Int(4),
-            Arg::Int(16),
-            Arg::Uint(1),
-        ],
-    )),
+    Row::Sends(Ask::AckConfigure(23, 5)),
+    Row::Sends(Ask::CreateBuffer(9, 25, 6400, 4, 4, 16, 1)),
     Row::Sends(ATTACH_25),
     Row::Sends(COMMIT_22),
-    Row::Waits(1, Some(&[])),
+    Row::Silent(1),
     Row::Shows(16, 16, &[Pixel(32, 32, 0, 0, 0), Pixel(36, 36, 255, 0, 0)]),
 ];
 
@@ -302,14 +214,14 @@ const DISMISSES_BOTH: &[Row] = &[
 /// The popup of one without a grab can't grab: it is dismissed, and its parent isn't.
 const SUBMENU_REFUSED: &[Row] = &[
     Row::Accepts(GRAB_24, &[SUBMENU_DISMISSED]),
-    Row::Accepts(COMMIT_22, &[]),
+    Row::Untold(COMMIT_22),
     Row::Shows(0, 0, &[Pixel(40, 40, 255, 0, 0)]),
 ];
 
 /// The popup that doesn't grab stays, and a press where nothing is leaves it.
 const STAYS_OUTSIDE: &[Row] = &[
     PRESS,
-    Row::Waits(1, Some(&[])),
+    Row::Silent(1),
     Row::Shows(0, 0, &[Pixel(40, 40, 255, 0, 0)]),
 ];
 
@@ -329,15 +241,11 @@ const BESIDE_PLACED: &[Row] = &[
     Row::Accepts(
         COMMIT_22,
         &[
-            Message(
-                24,
-                0,
-                &[Arg::Int(-8), Arg::Int(-8), Arg::Int(4), Arg::Int(4)],
-            ),
-            Message(23, 0, &[Arg::Uint(5)]),
+            Event::PopupConfigure(24, -8, -8, 4, 4),
+            Event::Configure(23, 5),
         ],
     ),
-    Row::Shows(0, 0, &[]),
+    Row::Paints(0, 0),
 ];
 
 const DISMISSES_BESIDE: &[Row] = &[
@@ -357,12 +265,12 @@ const MENU_UNMAPS: &[Row] = &[
 const DISMISSES_UNSEEN: &[Row] = &[
     PRESS,
     Row::ToldOf(1, &[SUBMENU_DISMISSED]),
-    Row::Shows(0, 0, &[]),
+    Row::Paints(0, 0),
 ];
 
 /// The submenu goes, and the menu grabs still: a press where nothing is dismisses it.
 const SUBMENU_GOES: &[Row] = &[
-    Row::Accepts(Message(24, 0, &[]), &[Message(1, 1, &[Arg::Uint(24)])]),
+    Row::Accepts(Ask::PopupDestroy(24), &[Event::DeleteId(24)]),
     Row::Shows(16, 16, &[Pixel(32, 32, 255, 0, 0)]),
 ];
 
@@ -375,7 +283,7 @@ const DISMISSES_MENU: &[Row] = &[
 /// The popup of one that was dismissed can't grab, and is dismissed too.
 const SUBMENU_DISMISSED_TOO: &[Row] = &[
     Row::Accepts(GRAB_24, &[SUBMENU_DISMISSED]),
-    Row::Accepts(COMMIT_22, &[]),
+    Row::Untold(COMMIT_22),
 ];
 
 /// By what is pressed.

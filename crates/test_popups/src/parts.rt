@@ -1,4 +1,5 @@
-//! The parts that many cases share, by their names. Each list of their rows is named in one function alone: what a body takes to prove grows with the
+//! The parts that many cases share, by their names. Each list of their rows is named in one
+//! function alone: what a body takes to prove grows with the
 //! square of the references in it.
 
 use crate::grabs::{
@@ -299,7 +300,8 @@ fn play(alloc: Global, first: &[&[Row]], parts: &[Part]) -> Result<(), Fault> {
     }
 }
 
-/// The first of the cases that isn't as wanted, each in a session of its own after what they all begin with, and what wasn't.
+/// The first of the cases that isn't as wanted, each in a session of its own after what they all
+/// begin with, and what wasn't.
 pub(crate) fn first_missed(
     alloc: Global,
     first: &[&[Row]],

@@ -1,8 +1,9 @@
-//! What the pointer does in cases of grabs, and what the client 1 is told of it where it has the wl_pointer 13 (wayland.xml, wl_pointer).
+//! What the pointer does in cases of grabs, and what the client 1 is told of it where it has the
+//! wl_pointer 13 (wayland.xml, wl_pointer).
 
-use test_rows::rows::{Message, Row};
+use test_rows::events::Event;
+use test_rows::rows::Row;
 use wl_session::{Done, Step};
-use wl_wire::{Arg, Fixed};
 
 /// The left button is pressed at the time 11, and released at the time 13.
 pub(crate) const PRESS: Row = Row::Calls(
@@ -64,29 +65,12 @@ pub(crate) const TO_NOTHING: Row = Row::Calls(
 );
 
 /// The surface 6 is entered there.
-const ENTERED: Message = Message(
-    13,
-    0,
-    &[
-        Arg::Uint(2),
-        Arg::Object(6),
-        Arg::Fixed(Fixed(1280)),
-        Arg::Fixed(Fixed(1024)),
-    ],
-);
+const ENTERED: Event = Event::Enter(13, 2, 6, 1280, 1024);
 
 /// wl_pointer.button of the first press and its release, with the serials 3 and 4.
-const PRESSED: Message = Message(
-    13,
-    3,
-    &[Arg::Uint(3), Arg::Uint(11), Arg::Uint(272), Arg::Uint(1)],
-);
+const PRESSED: Event = Event::Button(13, 3, 11, 272, 1);
 
-const RELEASED: Message = Message(
-    13,
-    3,
-    &[Arg::Uint(4), Arg::Uint(13), Arg::Uint(272), Arg::Uint(0)],
-);
+const RELEASED: Event = Event::Button(13, 4, 13, 272, 0);
 
 /// The button is pressed over the toplevel, which is told it with the serial 3.
 pub(crate) const PRESSES: &[Row] = &[
@@ -100,16 +84,13 @@ pub(crate) const PRESSES: &[Row] = &[
 pub(crate) const RELEASES: &[Row] = &[RELEASE, Row::ToldOf(1, &[RELEASED])];
 
 /// The pointer goes where nothing is, and the toplevel is left with the serial 5.
-pub(crate) const LEAVES: &[Row] = &[
-    TO_NOTHING,
-    Row::ToldOf(1, &[Message(13, 1, &[Arg::Uint(5), Arg::Object(6)])]),
-];
+pub(crate) const LEAVES: &[Row] = &[TO_NOTHING, Row::ToldOf(1, &[Event::Leave(13, 5, 6)])];
 
 /// The button is pressed and released there, and nobody is told of it.
 pub(crate) const CLICKS_NOTHING: &[Row] = &[
     PRESS,
-    Row::Waits(1, Some(&[])),
+    Row::Silent(1),
     RELEASE,
-    Row::Waits(1, Some(&[])),
-    Row::Shows(0, 0, &[]),
+    Row::Silent(1),
+    Row::Paints(0, 0),
 ];

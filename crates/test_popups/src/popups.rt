@@ -4,10 +4,11 @@ use crate::parts::{Case, Part};
 use crate::support::{
     ATTACH_18, COMMIT_14, DETACH_14, GET_POPUP, PLACED, RELEASED_18, missed_after_toplevel,
 };
+use test_rows::asks::Ask;
 use test_rows::begun::{ATTACH_10, ATTACH_NONE, COMMIT, CONFIGURED};
-use test_rows::rows::{Message, Pixel, Row};
+use test_rows::events::Event;
+use test_rows::rows::{Pixel, Row};
 use wl_session::{Done, Step};
-use wl_wire::Arg;
 
 /// The popup's points are painted, and no others: it stands at (40, 40).
 pub(crate) const POPUP_SHOWS: &[Row] = &[
@@ -23,20 +24,17 @@ pub(crate) const POPUP_SHOWS: &[Row] = &[
             Pixel(39, 39, 255, 0, 0),
         ],
     ),
-    Row::Shows(0, 0, &[]),
+    Row::Paints(0, 0),
 ];
 
-/// The corner of the toplevel's window geometry moves, and the popup goes along: its tree is painted again where it was and where it is, and the
-/// toplevel isn't (xdg-shell.xml, xdg_positioner.set_anchor_rect, which is relative to that).
+/// The corner of the toplevel's window geometry moves, and the popup goes along. Its tree is
+/// painted again where it was and where it is, and the toplevel isn't. The anchor rectangle is
+/// relative to that geometry (xdg-shell.xml, xdg_positioner.set_anchor_rect).
 const GEOMETRY_MOVES: &[Row] = &[
-    Row::Sends(Message(
-        7,
-        3,
-        &[Arg::Int(4), Arg::Int(4), Arg::Int(32), Arg::Int(32)],
-    )),
-    Row::Shows(0, 0, &[]),
+    Row::Sends(Ask::SetWindowGeometry(7, 4, 4, 32, 32)),
+    Row::Paints(0, 0),
     Row::Sends(COMMIT),
-    Row::Waits(1, Some(&[])),
+    Row::Silent(1),
     Row::Shows(
         112,
         112,
@@ -54,48 +52,50 @@ const GEOMETRY_MOVES: &[Row] = &[
 /// xdg_toplevel.destroy: the popup is dismissed, and nothing of both is shown any more.
 const TOPLEVEL_GOES: &[Row] = &[
     Row::Accepts(
-        Message(8, 0, &[]),
-        &[Message(1, 1, &[Arg::Uint(8)]), Message(17, 1, &[])],
+        Ask::ToplevelDestroy(8),
+        &[Event::DeleteId(8), Event::PopupDone(17)],
     ),
     Row::Shows(1664, 1664, &[Pixel(0, 0, 0, 0, 0), Pixel(44, 44, 0, 0, 0)]),
-    Row::Shows(0, 0, &[]),
+    Row::Paints(0, 0),
 ];
 
 /// Damage of the toplevel paints no popup again.
 const TOPLEVEL_DAMAGED: &[Row] = &[
-    Row::Sends(Message(6, 2, &[Arg::Int(0), Arg::Int(0), Arg::Int(1), Arg::Int(1)])),
+    Row::Sends(Ask::Damage(6, 0, 0, 1, 1)),
     Row::Sends(COMMIT),
-    Row::Shows(1, 1, &[]),
+    Row::Paints(1, 1),
 ];
 
 /// Nor does damage of the popup the toplevel.
 const POPUP_DAMAGED: &[Row] = &[
-    Row::Sends(Message(14, 2, &[Arg::Int(1), Arg::Int(1), Arg::Int(2), Arg::Int(1)])),
+    Row::Sends(Ask::Damage(14, 1, 1, 2, 1)),
     Row::Sends(COMMIT_14),
-    Row::Shows(2, 2, &[]),
+    Row::Paints(2, 2),
 ];
 
-/// A popup that is unmapped is configured again by its next commit, with another serial (xdg-shell.xml, xdg_surface).
+/// A popup that is unmapped is configured again by its next commit, with another serial
+/// (xdg-shell.xml, xdg_surface).
 const POPUP_UNMAPS: &[Row] = &[
     Row::Sends(DETACH_14),
     Row::Accepts(COMMIT_14, &[RELEASED_18]),
     Row::Shows(64, 64, &[Pixel(40, 40, 0, 0, 0)]),
-    Row::Accepts(COMMIT_14, &[PLACED, Message(15, 0, &[Arg::Uint(3)])]),
-    Row::Shows(0, 0, &[]),
-    Row::Sends(Message(15, 4, &[Arg::Uint(3)])),
+    Row::Accepts(COMMIT_14, &[PLACED, Event::Configure(15, 3)]),
+    Row::Paints(0, 0),
+    Row::Sends(Ask::AckConfigure(15, 3)),
     Row::Sends(ATTACH_18),
     Row::Sends(COMMIT_14),
     Row::Shows(64, 64, &[Pixel(40, 40, 255, 0, 0)]),
 ];
 
-/// With the toplevel its popup is unmapped and comes back, beside the place of the toplevel's next mapping, which is 32 pixels farther to the
-/// right and down: of the toplevel 32 by 32 points are in the output, and none of the popup.
+/// With the toplevel its popup is unmapped and comes back. The toplevel's next mapping is 32 pixels
+/// farther to the right and down, and the popup is beside it. Of the toplevel 32 by 32 points are
+/// in the output, and none of the popup.
 const TOPLEVEL_UNMAPS: &[Row] = &[
     Row::Sends(ATTACH_NONE),
-    Row::Accepts(COMMIT, &[Message(10, 0, &[])]),
+    Row::Accepts(COMMIT, &[Event::Release(10)]),
     Row::Shows(1664, 1664, &[Pixel(0, 0, 0, 0, 0), Pixel(40, 40, 0, 0, 0)]),
-    Row::Accepts(COMMIT, &[CONFIGURED, Message(7, 0, &[Arg::Uint(3)])]),
-    Row::Sends(Message(7, 4, &[Arg::Uint(3)])),
+    Row::Accepts(COMMIT, &[CONFIGURED, Event::Configure(7, 3)]),
+    Row::Sends(Ask::AckConfigure(7, 3)),
     Row::Sends(ATTACH_10),
     Row::Sends(COMMIT),
     Row::Shows(
@@ -107,14 +107,11 @@ const TOPLEVEL_UNMAPS: &[Row] = &[
 
 /// xdg_popup.destroy: its id is given back, and it isn't shown any more.
 const POPUP_GOES: &[Row] = &[
-    Row::Accepts(Message(17, 0, &[]), &[Message(1, 1, &[Arg::Uint(17)])]),
+    Row::Accepts(Ask::PopupDestroy(17), &[Event::DeleteId(17)]),
     Row::Shows(64, 64, &[Pixel(40, 40, 0, 0, 0)]),
-    Row::Accepts(Message(15, 0, &[]), &[Message(1, 1, &[Arg::Uint(15)])]),
-    Row::Accepts(
-        Message(14, 0, &[]),
-        &[Message(1, 1, &[Arg::Uint(14)]), RELEASED_18],
-    ),
-    Row::Shows(0, 0, &[]),
+    Row::Accepts(Ask::XdgSurfaceDestroy(15), &[Event::DeleteId(15)]),
+    Row::Accepts(Ask::SurfaceDestroy(14), &[Event::DeleteId(14), RELEASED_18]),
+    Row::Paints(0, 0),
 ];
 
 /// A client that goes leaves the points of its toplevel and of its popup to be painted again.
@@ -123,11 +120,11 @@ const CLIENT_GOES: &[Row] = &[
     Row::Shows(1664, 1664, &[Pixel(0, 0, 0, 0, 0), Pixel(40, 40, 0, 0, 0)]),
 ];
 
-/// A commit before the popup was configured places it once: a change of the positioner afterwards has no effect, nor does its end, since the popup
-/// has a copy of it.
+/// A commit before the popup was configured places it once. A change of the positioner afterwards
+/// has no effect, nor does its end, since the popup has a copy of it.
 const POSITIONER_CHANGES: &[Row] = &[
-    Row::Sends(Message(16, 6, &[Arg::Int(-8), Arg::Int(-8)])),
-    Row::Accepts(Message(16, 0, &[]), &[Message(1, 1, &[Arg::Uint(16)])]),
+    Row::Sends(Ask::SetOffset(16, -8, -8)),
+    Row::Accepts(Ask::PositionerDestroy(16), &[Event::DeleteId(16)]),
 ];
 
 /// It is shown, changes, and comes back.
@@ -221,7 +218,7 @@ const ENDS: &[Case] = &[
             Part::Positioner,
             Part::Own(&[Row::Sends(GET_POPUP)]),
             Part::Own(POSITIONER_CHANGES),
-            Part::Own(&[Row::Accepts(COMMIT_14, &[PLACED, Message(15, 0, &[Arg::Uint(2)])])]),
+            Part::Own(&[Row::Accepts(COMMIT_14, &[PLACED, Event::Configure(15, 2)])]),
             Part::PopupMaps,
             Part::PopupShows,
         ],

@@ -2,22 +2,19 @@
 
 use crate::parts::{Case, Part};
 use crate::support::{GET_POPUP, missed_after_toplevel};
-use test_rows::rows::{Message, Row};
-use wl_wire::Arg;
+use test_rows::asks::Ask;
+use test_rows::events::Event;
+use test_rows::rows::Row;
 
 /// The positioner 16 has no size, or no rectangle.
 const NO_SIZE: &[Row] = &[
-    Row::Sends(Message(5, 1, &[Arg::NewId(16)])),
-    Row::Sends(Message(
-        16,
-        2,
-        &[Arg::Int(0), Arg::Int(0), Arg::Int(40), Arg::Int(40)],
-    )),
+    Row::Sends(Ask::CreatePositioner(5, 16)),
+    Row::Sends(Ask::SetAnchorRect(16, 0, 0, 40, 40)),
 ];
 
 const NO_RECTANGLE: &[Row] = &[
-    Row::Sends(Message(5, 1, &[Arg::NewId(16)])),
-    Row::Sends(Message(16, 1, &[Arg::Int(8), Arg::Int(8)])),
+    Row::Sends(Ask::CreatePositioner(5, 16)),
+    Row::Sends(Ask::SetSize(16, 8, 8)),
 ];
 
 const INVALID_POSITIONER: &[Row] = &[
@@ -27,81 +24,61 @@ const INVALID_POSITIONER: &[Row] = &[
 
 /// The parent is null, the xdg_surface itself, or one without a role object.
 const NULL_PARENT: &[Row] = &[
-    Row::Errs(
-        Message(15, 2, &[Arg::NewId(17), Arg::Object(0), Arg::Object(16)]),
-        5,
-        3,
-    ),
+    Row::Errs(Ask::GetPopup(15, 17, 0, 16), 5, 3),
     Row::ErrorTold(5, 3, b"invalid_popup_parent"),
 ];
 
-const OWN_PARENT: &[Row] = &[Row::Errs(
-    Message(15, 2, &[Arg::NewId(17), Arg::Object(15), Arg::Object(16)]),
-    5,
-    3,
-)];
+const OWN_PARENT: &[Row] = &[Row::Errs(Ask::GetPopup(15, 17, 15, 16), 5, 3)];
 
 const BARE_PARENT: &[Row] = &[
-    Row::Sends(Message(3, 0, &[Arg::NewId(22)])),
-    Row::Sends(Message(5, 2, &[Arg::NewId(23), Arg::Object(22)])),
-    Row::Errs(
-        Message(15, 2, &[Arg::NewId(17), Arg::Object(23), Arg::Object(16)]),
-        5,
-        3,
-    ),
+    Row::Sends(Ask::CreateSurface(3, 22)),
+    Row::Sends(Ask::GetXdgSurface(5, 23, 22)),
+    Row::Errs(Ask::GetPopup(15, 17, 23, 16), 5, 3),
 ];
 
 /// The parent is looked at before the positioner.
-const PARENT_FIRST: &[Row] = &[Row::Errs(
-    Message(15, 2, &[Arg::NewId(17), Arg::Object(0), Arg::Object(16)]),
-    5,
-    3,
-)];
+const PARENT_FIRST: &[Row] = &[Row::Errs(Ask::GetPopup(15, 17, 0, 16), 5, 3)];
 
 /// The xdg_surface has a popup already.
 const SECOND_POPUP: &[Row] = &[
     Row::Sends(GET_POPUP),
-    Row::Errs(
-        Message(15, 2, &[Arg::NewId(20), Arg::Object(7), Arg::Object(16)]),
-        15,
-        2,
-    ),
+    Row::Errs(Ask::GetPopup(15, 20, 7, 16), 15, 2),
     Row::ErrorTold(15, 2, b"already_constructed"),
 ];
 
 /// Its popup went: the surface keeps the role of one, and gets no toplevel.
 const OTHER_ROLE: &[Row] = &[
     Row::Sends(GET_POPUP),
-    Row::Accepts(Message(17, 0, &[]), &[Message(1, 1, &[Arg::Uint(17)])]),
-    Row::Errs(Message(15, 1, &[Arg::NewId(17)]), 5, 0),
+    Row::Accepts(Ask::ToplevelDestroy(17), &[Event::DeleteId(17)]),
+    Row::Errs(Ask::GetToplevel(15, 17), 5, 0),
     Row::ErrorTold(5, 0, b"role"),
 ];
 
 /// Another popup of it is as good as the first.
 const SAME_ROLE: &[Row] = &[
     Row::Sends(GET_POPUP),
-    Row::Accepts(Message(17, 0, &[]), &[Message(1, 1, &[Arg::Uint(17)])]),
+    Row::Accepts(Ask::ToplevelDestroy(17), &[Event::DeleteId(17)]),
 ];
 
 /// The xdg_surface doesn't go before its popup, nor the wl_surface before that.
 const XDG_SURFACE_FIRST: &[Row] = &[
     Row::Sends(GET_POPUP),
-    Row::Errs(Message(15, 0, &[]), 15, 6),
+    Row::Errs(Ask::XdgSurfaceDestroy(15), 15, 6),
     Row::ErrorTold(15, 6, b"defunct_role_object"),
 ];
 
 /// A buffer before the popup was configured.
 const BUFFER_FIRST: &[Row] = &[
     Row::Sends(GET_POPUP),
-    Row::Sends(Message(14, 1, &[Arg::Object(10), Arg::Int(0), Arg::Int(0)])),
-    Row::Errs(Message(14, 6, &[]), 15, 3),
+    Row::Sends(Ask::Attach(14, 10)),
+    Row::Errs(Ask::Commit(14), 15, 3),
     Row::ErrorTold(15, 3, b"unconfigured_buffer"),
 ];
 
 /// A request of the xdg_popup by a number that it doesn't have.
 const NO_METHOD: &[Row] = &[
     Row::Sends(GET_POPUP),
-    Row::Errs(Message(17, 2, &[Arg::Object(16), Arg::Uint(1)]), 1, 1),
+    Row::Errs(Ask::Reposition(17, 16, 1), 1, 1),
     Row::ErrorTold(1, 1, b"invalid_method"),
 ];
 

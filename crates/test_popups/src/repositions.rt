@@ -1,4 +1,5 @@
-//! Popups that are placed anew (xdg-shell.xml, xdg_popup.reposition): what is told of it, and from which commit on they stand there.
+//! Popups that are placed anew (xdg-shell.xml, xdg_popup.reposition): what is told of it, and from
+//! which commit on they stand there.
 
 use crate::parts::{Case, Part, first_missed};
 use crate::submenus::{ATTACH_25, COMMIT_22};
@@ -6,14 +7,16 @@ use crate::support::{
     ATTACH_18, COMMIT_14, DETACH_14, GET_POPUP, POSITIONER, RELEASED_18, SURFACE,
 };
 use std::alloc::Global;
+use test_rows::asks::{Ask, Interface};
 use test_rows::begun::{
     ACKNOWLEDGES, BUFFERS, CONFIGURES, GLOBALS, GLOBALS_4, GREEN, MADE, MAPS, RED_10,
 };
-use test_rows::rows::{Fault, Message, Pixel, REGISTRY, Row};
+use test_rows::events::Event;
+use test_rows::rows::{Fault, Pixel, REGISTRY, Row};
 use wl_session::Fed;
-use wl_wire::Arg;
 
-/// The surface 6 with its toplevel 8 at the latest versions shows the buffer 10, which is all red, at (0, 0), and was painted. The second half of the
+/// The surface 6 with its toplevel 8 at the latest versions shows the buffer 10, which is all red,
+/// at (0, 0), and was painted. The second half of the
 /// pool is green.
 const SHOWN: &[&[Row]] = &[
     REGISTRY,
@@ -25,34 +28,24 @@ const SHOWN: &[&[Row]] = &[
     RED_10,
     &[Row::Fills(1, 1, 6400, 64, GREEN)],
     MAPS,
-    &[Row::Shows(1600, 1600, &[])],
+    &[Row::Paints(1600, 1600)],
     SURFACE,
     POSITIONER,
 ];
 
-/// The first of the cases that isn't as wanted after the toplevel was painted and the positioner made, and what wasn't.
+/// The first of the cases that isn't as wanted after the toplevel was painted and the positioner
+/// made, and what wasn't.
 fn missed(alloc: Global, cases: &[Case]) -> Option<(usize, Fault)> {
     first_missed(alloc, SHOWN, cases)
 }
 
 /// The popup 17 is mapped with the green buffer 18 of 8 by 8 pixels, and painted at (40, 40).
 pub(crate) const POPUP_SHOWS: &[Row] = &[
-    Row::Sends(Message(15, 4, &[Arg::Uint(2)])),
-    Row::Sends(Message(
-        9,
-        0,
-        &[
-            Arg::NewId(18),
-            Arg::Int(6400),
-            Arg::Int(8),
-            Arg::Int(8),
-            Arg::Int(32),
-            Arg::Uint(1),
-        ],
-    )),
+    Row::Sends(Ask::AckConfigure(15, 2)),
+    Row::Sends(Ask::CreateBuffer(9, 18, 6400, 8, 8, 32, 1)),
     Row::Sends(ATTACH_18),
     Row::Sends(COMMIT_14),
-    Row::Waits(1, Some(&[])),
+    Row::Silent(1),
     Row::Shows(
         64,
         64,
@@ -65,47 +58,39 @@ pub(crate) const POPUP_SHOWS: &[Row] = &[
 ];
 
 /// xdg_positioner.set_offset of the positioner 16.
-const OFFSET_8: Message = Message(16, 6, &[Arg::Int(-8), Arg::Int(-8)]);
+const OFFSET_8: Ask = Ask::SetOffset(16, -8, -8);
 
-const OFFSET_16: Message = Message(16, 6, &[Arg::Int(-16), Arg::Int(-16)]);
+const OFFSET_16: Ask = Ask::SetOffset(16, -16, -16);
 
 /// xdg_popup.reposition by the positioner 16.
-const REPOSITION_77: Message = Message(17, 2, &[Arg::Object(16), Arg::Uint(77)]);
+const REPOSITION_77: Ask = Ask::Reposition(17, 16, 77);
 
-const REPOSITION_78: Message = Message(17, 2, &[Arg::Object(16), Arg::Uint(78)]);
+const REPOSITION_78: Ask = Ask::Reposition(17, 16, 78);
 
 /// xdg_popup.repositioned, and where the popup will stand.
-const REPOSITIONED_77: Message = Message(17, 2, &[Arg::Uint(77)]);
+const REPOSITIONED_77: Event = Event::Repositioned(17, 77);
 
-const REPOSITIONED_78: Message = Message(17, 2, &[Arg::Uint(78)]);
+const REPOSITIONED_78: Event = Event::Repositioned(17, 78);
 
-const AT_32: Message = Message(
-    17,
-    0,
-    &[Arg::Int(32), Arg::Int(32), Arg::Int(8), Arg::Int(8)],
-);
+const AT_32: Event = Event::PopupConfigure(17, 32, 32, 8, 8);
 
-const AT_24: Message = Message(
-    17,
-    0,
-    &[Arg::Int(24), Arg::Int(24), Arg::Int(8), Arg::Int(8)],
-);
+const AT_24: Event = Event::PopupConfigure(17, 24, 24, 8, 8);
 
 /// xdg_surface.ack_configure of the xdg_surface 15.
-const ACK_2: Message = Message(15, 4, &[Arg::Uint(2)]);
+const ACK_2: Ask = Ask::AckConfigure(15, 2);
 
-const ACK_3: Message = Message(15, 4, &[Arg::Uint(3)]);
+const ACK_3: Ask = Ask::AckConfigure(15, 3);
 
-const ACK_4: Message = Message(15, 4, &[Arg::Uint(4)]);
+const ACK_4: Ask = Ask::AckConfigure(15, 4);
 
 /// It is placed anew 8 pixels farther to the left and up.
 pub(crate) const PLACED_ANEW: &[Row] = &[
     Row::Sends(OFFSET_8),
     Row::Accepts(
         REPOSITION_77,
-        &[REPOSITIONED_77, AT_32, Message(15, 0, &[Arg::Uint(3)])],
+        &[REPOSITIONED_77, AT_32, Event::Configure(15, 3)],
     ),
-    Row::Shows(0, 0, &[]),
+    Row::Paints(0, 0),
 ];
 
 /// And once more.
@@ -113,9 +98,9 @@ pub(crate) const PLACED_AGAIN: &[Row] = &[
     Row::Sends(OFFSET_16),
     Row::Accepts(
         REPOSITION_78,
-        &[REPOSITIONED_78, AT_24, Message(15, 0, &[Arg::Uint(4)])],
+        &[REPOSITIONED_78, AT_24, Event::Configure(15, 4)],
     ),
-    Row::Shows(0, 0, &[]),
+    Row::Paints(0, 0),
 ];
 
 /// It is painted where it was and where it is, and the toplevel isn't.
@@ -140,10 +125,10 @@ const FROM_THE_COMMIT_ON: &[Row] = &[
     Row::Sends(ACK_3),
     Row::Shows(0, 0, &[Pixel(40, 40, 0, 255, 0)]),
     Row::Sends(COMMIT_14),
-    Row::Waits(1, Some(&[])),
+    Row::Silent(1),
     Row::Shows(128, 128, MOVED_TO_32),
     Row::Sends(COMMIT_14),
-    Row::Shows(0, 0, &[]),
+    Row::Paints(0, 0),
 ];
 
 /// A commit before the acknowledgement leaves it where it stands.
@@ -158,9 +143,9 @@ const COMMITTED_FIRST: &[Row] = &[
 /// The earlier configure is acknowledged with the later one, and not by itself any more.
 const WITH_A_LATER_ONE: &[Row] = &[
     Row::Sends(ACK_4),
-    Row::Shows(0, 0, &[]),
+    Row::Paints(0, 0),
     Row::Sends(COMMIT_14),
-    Row::Waits(1, Some(&[])),
+    Row::Silent(1),
     Row::Shows(128, 128, MOVED_TO_24),
     Row::Errs(ACK_3, 15, 4),
 ];
@@ -172,7 +157,7 @@ const THE_LATEST: &[Row] = &[
     Row::Sends(COMMIT_14),
     Row::Shows(128, 128, MOVED_TO_24),
     Row::Sends(COMMIT_14),
-    Row::Shows(0, 0, &[]),
+    Row::Paints(0, 0),
 ];
 
 const PLACES: &[Case] = &[
@@ -227,22 +212,23 @@ const ONE_BY_ONE: &[Row] = &[
     Row::Sends(COMMIT_14),
     Row::Shows(128, 128, MOVED_TO_32),
     Row::Sends(ACK_4),
-    Row::Shows(0, 0, &[]),
+    Row::Paints(0, 0),
     Row::Sends(COMMIT_14),
     Row::Shows(128, 128, MOVED_TO_24),
 ];
 
-/// A commit that unmaps it forgets what was acknowledged and what was not: it is placed by the latest positioner as it is configured again.
+/// A commit that unmaps it forgets what was acknowledged and what was not: it is placed by the
+/// latest positioner as it is configured again.
 const UNMAPPED: &[Row] = &[
     Row::Sends(ACK_3),
     Row::Sends(DETACH_14),
     Row::Accepts(COMMIT_14, &[RELEASED_18]),
     Row::Shows(64, 64, &[Pixel(40, 40, 0, 0, 0)]),
-    Row::Accepts(COMMIT_14, &[AT_24, Message(15, 0, &[Arg::Uint(5)])]),
-    Row::Sends(Message(15, 4, &[Arg::Uint(5)])),
+    Row::Accepts(COMMIT_14, &[AT_24, Event::Configure(15, 5)]),
+    Row::Sends(Ask::AckConfigure(15, 5)),
     Row::Sends(ATTACH_18),
     Row::Sends(COMMIT_14),
-    Row::Waits(1, Some(&[])),
+    Row::Silent(1),
     Row::Shows(64, 64, MOVED_TO_24),
 ];
 
@@ -293,24 +279,14 @@ fn places_are_forgotten_as_worked(rt: HostRuntime) {
 
 /// The green buffer 18 of 8 by 8 pixels is attached and committed.
 const MAPPED_LATER: &[Row] = &[
-    Row::Sends(Message(
-        9,
-        0,
-        &[
-            Arg::NewId(18),
-            Arg::Int(6400),
-            Arg::Int(8),
-            Arg::Int(8),
-            Arg::Int(32),
-            Arg::Uint(1),
-        ],
-    )),
+    Row::Sends(Ask::CreateBuffer(9, 18, 6400, 8, 8, 32, 1)),
     Row::Sends(ATTACH_18),
     Row::Sends(COMMIT_14),
-    Row::Waits(1, Some(&[])),
+    Row::Silent(1),
 ];
 
-/// A popup that waits for its first acknowledgement is placed anew; both are acknowledged, and it is mapped there.
+/// A popup that waits for its first acknowledgement is placed anew; both are acknowledged, and it
+/// is mapped there.
 const MAPPED_THERE: &[Row] = &[Row::Shows(64, 64, MOVED_TO_32)];
 
 /// Only the first is acknowledged: it is mapped where that placed it.
@@ -329,15 +305,15 @@ const MAPPED_BEFORE: &[Row] = &[
 const BEFORE_ITS_COMMIT: &[Row] = &[
     Row::Sends(GET_POPUP),
     Row::Sends(OFFSET_8),
-    Row::Accepts(REPOSITION_77, &[]),
+    Row::Untold(REPOSITION_77),
     Row::Sends(OFFSET_16),
-    Row::Accepts(COMMIT_14, &[AT_32, Message(15, 0, &[Arg::Uint(2)])]),
+    Row::Accepts(COMMIT_14, &[AT_32, Event::Configure(15, 2)]),
     Row::Sends(ACK_2),
 ];
 
 /// It has a copy of its positioner, which goes.
 const POSITIONER_GOES: &[Row] = &[
-    Row::Accepts(Message(16, 0, &[]), &[Message(1, 1, &[Arg::Uint(16)])]),
+    Row::Accepts(Ask::PositionerDestroy(16), &[Event::DeleteId(16)]),
     Row::Sends(ACK_3),
     Row::Sends(COMMIT_14),
     Row::Shows(128, 128, MOVED_TO_32),
@@ -391,8 +367,8 @@ fn popups_are_placed_anew_before_they_are_mapped(rt: HostRuntime) {
 /// xdg_toplevel.destroy: the popup is dismissed.
 const DISMISSED: &[Row] = &[
     Row::Accepts(
-        Message(8, 0, &[]),
-        &[Message(1, 1, &[Arg::Uint(8)]), Message(17, 1, &[])],
+        Ask::ToplevelDestroy(8),
+        &[Event::DeleteId(8), Event::PopupDone(17)],
     ),
     Row::Shows(1664, 1664, &[Pixel(40, 40, 0, 0, 0)]),
 ];
@@ -400,43 +376,41 @@ const DISMISSED: &[Row] = &[
 /// Nothing is told of one that was dismissed, and it isn't shown.
 const PLACED_IN_VAIN: &[Row] = &[
     Row::Sends(OFFSET_8),
-    Row::Accepts(REPOSITION_77, &[]),
-    Row::Accepts(COMMIT_14, &[]),
-    Row::Shows(0, 0, &[]),
+    Row::Untold(REPOSITION_77),
+    Row::Untold(COMMIT_14),
+    Row::Paints(0, 0),
 ];
 
 /// The positioner 19 is incomplete.
 const INCOMPLETE: &[Row] = &[
-    Row::Sends(Message(5, 1, &[Arg::NewId(19)])),
-    Row::Errs(Message(17, 2, &[Arg::Object(19), Arg::Uint(1)]), 5, 5),
+    Row::Sends(Ask::CreatePositioner(5, 19)),
+    Row::Errs(Ask::Reposition(17, 19, 1), 5, 5),
     Row::ErrorTold(5, 5, b"invalid_positioner"),
 ];
 
-/// The sides of a buffer are looked at in what a dismissed popup commits, too (wayland.xml, wl_surface.set_buffer_scale).
+/// The sides of a buffer are looked at in what a dismissed popup commits, too (wayland.xml,
+/// wl_surface.set_buffer_scale).
 const SIZE_OF_DISMISSED: &[Row] = &[
-    Row::Sends(Message(14, 8, &[Arg::Int(3)])),
+    Row::Sends(Ask::SetBufferScale(14, 3)),
     Row::Errs(COMMIT_14, 14, 2),
     Row::ErrorTold(14, 2, b"invalid_size"),
 ];
 
-/// A commit of one that was dismissed puts no place in force: its own popups are placed by where it stood. At (40, 40) there are 24 pixels to the right
-/// of it, so a popup of 4 by 4 that is to stand 22 to the right slides back by 2.
+/// A commit of one that was dismissed puts no place in force: its own popups are placed by where it
+/// stood. At (40, 40) there are 24 pixels to the right of it. So a popup of 4 by 4 that is to stand
+/// 22 to the right slides back by 2.
 const STOOD: &[Row] = &[
     Row::Sends(COMMIT_14),
-    Row::Sends(Message(21, 5, &[Arg::Uint(1)])),
-    Row::Sends(Message(21, 6, &[Arg::Int(22), Arg::Int(0)])),
-    Row::Sends(Message(3, 0, &[Arg::NewId(22)])),
-    Row::Sends(Message(5, 2, &[Arg::NewId(23), Arg::Object(22)])),
-    Row::Sends(Message(23, 2, &[Arg::NewId(24), Arg::Object(15), Arg::Object(21)])),
+    Row::Sends(Ask::SetConstraintAdjustment(21, 1)),
+    Row::Sends(Ask::SetOffset(21, 22, 0)),
+    Row::Sends(Ask::CreateSurface(3, 22)),
+    Row::Sends(Ask::GetXdgSurface(5, 23, 22)),
+    Row::Sends(Ask::GetPopup(23, 24, 15, 21)),
     Row::Accepts(
         COMMIT_22,
         &[
-            Message(
-                24,
-                0,
-                &[Arg::Int(20), Arg::Int(0), Arg::Int(4), Arg::Int(4)],
-            ),
-            Message(23, 0, &[Arg::Uint(4)]),
+            Event::PopupConfigure(24, 20, 0, 4, 4),
+            Event::Configure(23, 4),
         ],
     ),
 ];
@@ -492,8 +466,8 @@ fn dismissed_popups_are_not_placed_anew(rt: HostRuntime) {
 const CONFIGURE_65: &[Row] = &[
     Row::Changes(32, REPOSITION_77, REPOSITION_78),
     Row::Takes,
-    Row::Sends(Message(5, 1, &[Arg::NewId(19)])),
-    Row::Errs(Message(17, 2, &[Arg::Object(19), Arg::Uint(1)]), 1, 3),
+    Row::Sends(Ask::CreatePositioner(5, 19)),
+    Row::Errs(Ask::Reposition(17, 19, 1), 1, 3),
     Row::ErrorTold(1, 3, b"implementation"),
 ];
 
@@ -519,13 +493,14 @@ fn repositions_are_refused_as_worked(rt: HostRuntime) {
 
 /// The xdg_wm_base 5 at version 2.
 const GLOBALS_2: &[Row] = &[
-    Row::Binds(1, b"wl_compositor", 4, 3, Fed::Alive),
-    Row::Binds(3, b"wl_shm", 1, 4, Fed::Alive),
-    Row::Binds(6, b"xdg_wm_base", 2, 5, Fed::Alive),
+    Row::Binds(1, Interface::Compositor, 4, 3, Fed::Alive),
+    Row::Binds(3, Interface::Shm, 1, 4, Fed::Alive),
+    Row::Binds(6, Interface::WmBase, 2, 5, Fed::Alive),
     Row::Takes,
 ];
 
-/// No popup of an earlier version is placed anew, and no positioner has the requests of a reactive one.
+/// No popup of an earlier version is placed anew, and no positioner has the requests of a reactive
+/// one.
 const NO_REPOSITION: &[Row] = &[
     Row::Sends(GET_POPUP),
     Row::Errs(REPOSITION_77, 1, 1),
@@ -533,7 +508,7 @@ const NO_REPOSITION: &[Row] = &[
 ];
 
 const NOT_REACTIVE: &[Row] = &[
-    Row::Errs(Message(16, 7, &[]), 1, 1),
+    Row::Errs(Ask::SetReactive(16), 1, 1),
     Row::ErrorTold(1, 1, b"invalid_method"),
 ];
 
@@ -580,29 +555,19 @@ fn earlier_versions_place_no_popup_anew(rt: HostRuntime) {
     assert_eq!(rt; missed_after_registry(rt.alloc(), EARLIER), None);
 }
 
-/// The surface 22 with its xdg_surface 23 has the popup 24 on the popup 17, and shows the buffer 25 of 4 by 4 red pixels at (32, 32).
+/// The surface 22 with its xdg_surface 23 has the popup 24 on the popup 17, and shows the buffer 25
+/// of 4 by 4 red pixels at (32, 32).
 const SUBMENU: &[Row] = &[
-    Row::Sends(Message(3, 0, &[Arg::NewId(22)])),
-    Row::Sends(Message(5, 2, &[Arg::NewId(23), Arg::Object(22)])),
-    Row::Sends(Message(23, 2, &[Arg::NewId(24), Arg::Object(15), Arg::Object(21)])),
+    Row::Sends(Ask::CreateSurface(3, 22)),
+    Row::Sends(Ask::GetXdgSurface(5, 23, 22)),
+    Row::Sends(Ask::GetPopup(23, 24, 15, 21)),
     Row::Sends(COMMIT_22),
     Row::Takes,
-    Row::Sends(Message(23, 4, &[Arg::Uint(3)])),
-    Row::Sends(Message(
-        9,
-        0,
-        &[
-            Arg::NewId(25),
-            Arg::Int(6400),
-            Arg::Int(4),
-            Arg::Int(4),
-            Arg::Int(16),
-            Arg::Uint(1),
-        ],
-    )),
+    Row::Sends(Ask::AckConfigure(23, 3)),
+    Row::Sends(Ask::CreateBuffer(9, 25, 6400, 4, 4, 16, 1)),
     Row::Sends(ATTACH_25),
     Row::Sends(COMMIT_22),
-    Row::Waits(1, Some(&[])),
+    Row::Silent(1),
     Row::Shows(
         16,
         16,
@@ -614,18 +579,18 @@ const SUBMENU: &[Row] = &[
     ),
 ];
 
-/// As its parent is placed anew a submenu goes along: their two windows are painted where they were and where they are, of which 16 points are the same,
-/// and no others.
+/// As its parent is placed anew a submenu goes along. Their two windows are painted where they were
+/// and where they are, and no other points. 16 of these points are the same.
 const BOTH_MOVE: &[Row] = &[
     Row::Sends(OFFSET_8),
     Row::Accepts(
         REPOSITION_77,
-        &[REPOSITIONED_77, AT_32, Message(15, 0, &[Arg::Uint(4)])],
+        &[REPOSITIONED_77, AT_32, Event::Configure(15, 4)],
     ),
     Row::Sends(ACK_4),
-    Row::Shows(0, 0, &[]),
+    Row::Paints(0, 0),
     Row::Sends(COMMIT_14),
-    Row::Waits(1, Some(&[])),
+    Row::Silent(1),
     Row::Shows(
         144,
         144,
@@ -643,20 +608,16 @@ const BOTH_MOVE: &[Row] = &[
 
 /// A submenu that is placed anew moves alone, by its parent's place.
 const SUBMENU_MOVES: &[Row] = &[
-    Row::Sends(Message(21, 6, &[Arg::Int(-16), Arg::Int(-8)])),
+    Row::Sends(Ask::SetOffset(21, -16, -8)),
     Row::Accepts(
-        Message(24, 2, &[Arg::Object(21), Arg::Uint(0)]),
+        Ask::Reposition(24, 21, 0),
         &[
-            Message(24, 2, &[Arg::Uint(0)]),
-            Message(
-                24,
-                0,
-                &[Arg::Int(-16), Arg::Int(-8), Arg::Int(4), Arg::Int(4)],
-            ),
-            Message(23, 0, &[Arg::Uint(4)]),
+            Event::Repositioned(24, 0),
+            Event::PopupConfigure(24, -16, -8, 4, 4),
+            Event::Configure(23, 4),
         ],
     ),
-    Row::Sends(Message(23, 4, &[Arg::Uint(4)])),
+    Row::Sends(Ask::AckConfigure(23, 4)),
     Row::Sends(COMMIT_22),
     Row::Shows(
         32,

@@ -1,35 +1,21 @@
-//! Grabs beside another client: a press of its windows dismisses, and no client grabs while another does (xdg-shell.xml, xdg_popup.grab).
+//! Grabs beside another client: a press of its windows dismisses, and no client grabs while another
+//! does (xdg-shell.xml, xdg_popup.grab).
 
 use crate::parts::{Case, Part};
 use crate::support::missed_after_toplevel;
+use test_rows::asks::{Ask, Interface};
 use test_rows::begun::GREEN;
-use test_rows::rows::{Message, Pixel, Row};
+use test_rows::events::Event;
+use test_rows::rows::{Pixel, Row};
 use wl_session::{Done, Step};
-use wl_wire::{Arg, Fixed};
 
-/// The client 2 shows a green window at (32, 32), above that of the client 1, which is red at (0, 0).
+/// The client 2 shows a green window at (32, 32), above that of the client 1, which is red at (0,
+/// 0).
 pub(crate) const SHOWS_SECOND: &[Row] = &[
-    Row::From(
-        2,
-        Message(
-            9,
-            0,
-            &[
-                Arg::NewId(10),
-                Arg::Int(0),
-                Arg::Int(40),
-                Arg::Int(40),
-                Arg::Int(160),
-                Arg::Uint(1),
-            ],
-        ),
-    ),
+    Row::From(2, Ask::CreateBuffer(9, 10, 0, 40, 40, 160, 1)),
     Row::Fills(2, 1, 0, 1600, GREEN),
-    Row::From(
-        2,
-        Message(6, 1, &[Arg::Object(10), Arg::Int(0), Arg::Int(0)]),
-    ),
-    Row::From(2, Message(6, 6, &[])),
+    Row::From(2, Ask::Attach(6, 10)),
+    Row::From(2, Ask::Commit(6)),
     Row::ToldOf(2, &[]),
     Row::Shows(
         1024,
@@ -40,21 +26,9 @@ pub(crate) const SHOWS_SECOND: &[Row] = &[
 
 /// It has the wl_seat 12 and the wl_pointer 13 too.
 pub(crate) const SECOND_SEATED: &[Row] = &[
-    Row::From(
-        2,
-        Message(
-            2,
-            0,
-            &[
-                Arg::Uint(5),
-                Arg::Str(b"wl_seat"),
-                Arg::Uint(1),
-                Arg::NewId(12),
-            ],
-        ),
-    ),
+    Row::From(2, Ask::Bind(2, 5, Interface::Seat, 1, 12)),
     Row::TakesOf(2),
-    Row::From(2, Message(12, 0, &[Arg::NewId(13)])),
+    Row::From(2, Ask::GetPointer(12, 13)),
 ];
 
 /// The left button.
@@ -77,23 +51,11 @@ const RELEASE: Row = Row::Calls(
 );
 
 /// wl_pointer.button of both with a serial.
-const PRESSED_3: Message = Message(
-    13,
-    3,
-    &[Arg::Uint(3), Arg::Uint(2), Arg::Uint(272), Arg::Uint(1)],
-);
+const PRESSED_3: Event = Event::Button(13, 3, 2, 272, 1);
 
-const RELEASED_4: Message = Message(
-    13,
-    3,
-    &[Arg::Uint(4), Arg::Uint(3), Arg::Uint(272), Arg::Uint(0)],
-);
+const RELEASED_4: Event = Event::Button(13, 4, 3, 272, 0);
 
-const RELEASED_5: Message = Message(
-    13,
-    3,
-    &[Arg::Uint(5), Arg::Uint(3), Arg::Uint(272), Arg::Uint(0)],
-);
+const RELEASED_5: Event = Event::Button(13, 5, 3, 272, 0);
 
 /// The pointer goes over the window of the client 2 alone, to (45, 45), which are (13, 13) of it.
 const TO_SECOND: Row = Row::Calls(
@@ -105,16 +67,7 @@ const TO_SECOND: Row = Row::Calls(
     Done::Motion,
 );
 
-const ENTERED_BY_13: Message = Message(
-    13,
-    0,
-    &[
-        Arg::Uint(2),
-        Arg::Object(6),
-        Arg::Fixed(Fixed(3328)),
-        Arg::Fixed(Fixed(3328)),
-    ],
-);
+const ENTERED_BY_13: Event = Event::Enter(13, 2, 6, 3328, 3328);
 
 /// The window of the client 2 is pressed.
 pub(crate) const PRESSES_SECOND: &[Row] = &[
@@ -124,75 +77,47 @@ pub(crate) const PRESSES_SECOND: &[Row] = &[
     Row::ToldOf(2, &[PRESSED_3]),
 ];
 
-/// The client 2 makes the popup 17 of the surface 14, 8 by 8 pixels and 24 to the left and up of its window.
+/// The client 2 makes the popup 17 of the surface 14, 8 by 8 pixels and 24 to the left and up of
+/// its window.
 pub(crate) const SECOND_GETS: &[Row] = &[
-    Row::From(2, Message(3, 0, &[Arg::NewId(14)])),
-    Row::From(2, Message(5, 2, &[Arg::NewId(15), Arg::Object(14)])),
-    Row::From(2, Message(5, 1, &[Arg::NewId(16)])),
-    Row::From(2, Message(16, 1, &[Arg::Int(8), Arg::Int(8)])),
-    Row::From(
-        2,
-        Message(16, 2, &[Arg::Int(0), Arg::Int(0), Arg::Int(1), Arg::Int(1)]),
-    ),
-    Row::From(2, Message(16, 3, &[Arg::Uint(5)])),
-    Row::From(2, Message(16, 4, &[Arg::Uint(8)])),
-    Row::From(2, Message(16, 6, &[Arg::Int(-24), Arg::Int(-24)])),
-    Row::From(
-        2,
-        Message(15, 2, &[Arg::NewId(17), Arg::Object(7), Arg::Object(16)]),
-    ),
+    Row::From(2, Ask::CreateSurface(3, 14)),
+    Row::From(2, Ask::GetXdgSurface(5, 15, 14)),
+    Row::From(2, Ask::CreatePositioner(5, 16)),
+    Row::From(2, Ask::SetSize(16, 8, 8)),
+    Row::From(2, Ask::SetAnchorRect(16, 0, 0, 1, 1)),
+    Row::From(2, Ask::SetAnchor(16, 5)),
+    Row::From(2, Ask::SetGravity(16, 8)),
+    Row::From(2, Ask::SetOffset(16, -24, -24)),
+    Row::From(2, Ask::GetPopup(15, 17, 7, 16)),
 ];
 
 /// It grabs with the serial of the press.
-pub(crate) const SECOND_GRABS: &[Row] = &[
-    Row::From(2, Message(17, 1, &[Arg::Object(12), Arg::Uint(3)])),
-    Row::ToldOf(2, &[]),
-];
+pub(crate) const SECOND_GRABS: &[Row] = &[Row::From(2, Ask::Grab(17, 12, 3)), Row::ToldOf(2, &[])];
 
 /// It is mapped at (8, 8), and the button is released.
 pub(crate) const SECOND_MAPS: &[Row] = &[
-    Row::From(2, Message(14, 6, &[])),
+    Row::From(2, Ask::Commit(14)),
     Row::ToldOf(
         2,
         &[
-            Message(
-                17,
-                0,
-                &[Arg::Int(-24), Arg::Int(-24), Arg::Int(8), Arg::Int(8)],
-            ),
-            Message(15, 0, &[Arg::Uint(4)]),
+            Event::PopupConfigure(17, -24, -24, 8, 8),
+            Event::Configure(15, 4),
         ],
     ),
-    Row::From(2, Message(15, 4, &[Arg::Uint(4)])),
-    Row::From(
-        2,
-        Message(
-            9,
-            0,
-            &[
-                Arg::NewId(18),
-                Arg::Int(0),
-                Arg::Int(8),
-                Arg::Int(8),
-                Arg::Int(32),
-                Arg::Uint(1),
-            ],
-        ),
-    ),
-    Row::From(
-        2,
-        Message(14, 1, &[Arg::Object(18), Arg::Int(0), Arg::Int(0)]),
-    ),
-    Row::From(2, Message(14, 6, &[])),
+    Row::From(2, Ask::AckConfigure(15, 4)),
+    Row::From(2, Ask::CreateBuffer(9, 18, 0, 8, 8, 32, 1)),
+    Row::From(2, Ask::Attach(14, 18)),
+    Row::From(2, Ask::Commit(14)),
     Row::ToldOf(2, &[]),
     RELEASE,
     Row::ToldOf(2, &[RELEASED_5]),
     Row::Shows(64, 64, &[Pixel(8, 8, 0, 255, 0), Pixel(16, 16, 255, 0, 0)]),
 ];
 
-const SECOND_DISMISSED: Message = Message(17, 1, &[]);
+const SECOND_DISMISSED: Event = Event::PopupDone(17);
 
-/// The pointer leaves the client 2 for (50, 5), where nothing is, and a press there dismisses the popup, of which all points are painted again.
+/// The pointer leaves the client 2 for (50, 5), where nothing is, and a press there dismisses the
+/// popup, of which all points are painted again.
 const DISMISSED_BY_NOTHING: &[Row] = &[
     Row::Calls(
         Step::Motion {
@@ -202,7 +127,7 @@ const DISMISSED_BY_NOTHING: &[Row] = &[
         },
         Done::Motion,
     ),
-    Row::ToldOf(2, &[Message(13, 1, &[Arg::Uint(6), Arg::Object(6)])]),
+    Row::ToldOf(2, &[Event::Leave(13, 6, 6)]),
     PRESS,
     Row::ToldOf(2, &[SECOND_DISMISSED]),
     Row::ToldOf(1, &[]),
@@ -217,8 +142,8 @@ const DISMISSED_BY_NOTHING: &[Row] = &[
     ),
 ];
 
-/// The pointer goes over the popup, (2, 2) of it, and the client 2 goes: the pointer enters the toplevel of the client 1 there, and the windows of the
-/// other are painted over.
+/// The pointer goes over the popup, (2, 2) of it, and the client 2 goes. The pointer enters the
+/// toplevel of the client 1 there, and the windows of the other are painted over.
 const SECOND_GOES: &[Row] = &[
     Row::Calls(
         Step::Motion {
@@ -230,36 +155,12 @@ const SECOND_GOES: &[Row] = &[
     ),
     Row::ToldOf(
         2,
-        &[
-            Message(13, 1, &[Arg::Uint(6), Arg::Object(6)]),
-            Message(
-                13,
-                0,
-                &[
-                    Arg::Uint(7),
-                    Arg::Object(14),
-                    Arg::Fixed(Fixed(512)),
-                    Arg::Fixed(Fixed(512)),
-                ],
-            ),
-        ],
+        &[Event::Leave(13, 6, 6), Event::Enter(13, 7, 14, 512, 512)],
     ),
-    Row::Shows(0, 0, &[]),
+    Row::Paints(0, 0),
     Row::ToldOf(1, &[]),
     Row::Calls(Step::Gone { client: 2 }, Done::Gone(true)),
-    Row::ToldOf(
-        1,
-        &[Message(
-            13,
-            0,
-            &[
-                Arg::Uint(2),
-                Arg::Object(6),
-                Arg::Fixed(Fixed(2560)),
-                Arg::Fixed(Fixed(2560)),
-            ],
-        )],
-    ),
+    Row::ToldOf(1, &[Event::Enter(13, 2, 6, 2560, 2560)]),
     Row::Shows(
         1088,
         1088,
@@ -277,7 +178,8 @@ const TO_FIRST: Row = Row::Calls(
     Done::Motion,
 );
 
-/// It is pressed: the popup of the other client is dismissed, whose points are painted, and the toplevel is raised, with its points of both windows.
+/// It is pressed: the popup of the other client is dismissed, whose points are painted, and the
+/// toplevel is raised, with its points of both windows.
 const DISMISSED_BY_FIRST: &[Row] = &[
     TO_FIRST,
     Row::TakesOf(1),
@@ -310,7 +212,8 @@ const DISMISSED_BY_UNTOLD: &[Row] = &[
     ),
 ];
 
-/// The client 1 is clicked first, with the serials 3 and 4, and its toplevel is raised; and left, with the serial 5.
+/// The client 1 is clicked first, with the serials 3 and 4, and its toplevel is raised; and left,
+/// with the serial 5.
 pub(crate) const CLICKS_FIRST: &[Row] = &[
     TO_FIRST,
     Row::TakesOf(1),
@@ -324,7 +227,7 @@ pub(crate) const CLICKS_FIRST: &[Row] = &[
 /// Then the client 2 is: its window is raised again.
 pub(crate) const PRESSES_NEXT: &[Row] = &[
     TO_SECOND,
-    Row::ToldOf(1, &[Message(13, 1, &[Arg::Uint(5), Arg::Object(6)])]),
+    Row::ToldOf(1, &[Event::Leave(13, 5, 6)]),
     Row::ToldOf(2, &[ENTERED_BY_13]),
     PRESS,
     Row::ToldOf(2, &[PRESSED_3]),
@@ -333,40 +236,38 @@ pub(crate) const PRESSES_NEXT: &[Row] = &[
 
 /// The client 1 makes a popup 17 of its own surface 14, of 8 by 8 pixels at the lower right corner.
 pub(crate) const FIRST_GETS: &[Row] = &[
-    Row::Sends(Message(3, 0, &[Arg::NewId(14)])),
-    Row::Sends(Message(5, 2, &[Arg::NewId(15), Arg::Object(14)])),
-    Row::Sends(Message(5, 1, &[Arg::NewId(16)])),
-    Row::Sends(Message(16, 1, &[Arg::Int(8), Arg::Int(8)])),
-    Row::Sends(Message(16, 2, &[Arg::Int(0), Arg::Int(0), Arg::Int(1), Arg::Int(1)])),
-    Row::Accepts(
-        Message(15, 2, &[Arg::NewId(17), Arg::Object(7), Arg::Object(16)]),
-        &[],
-    ),
+    Row::Sends(Ask::CreateSurface(3, 14)),
+    Row::Sends(Ask::GetXdgSurface(5, 15, 14)),
+    Row::Sends(Ask::CreatePositioner(5, 16)),
+    Row::Sends(Ask::SetSize(16, 8, 8)),
+    Row::Sends(Ask::SetAnchorRect(16, 0, 0, 1, 1)),
+    Row::Untold(Ask::GetPopup(15, 17, 7, 16)),
 ];
 
-const FIRST_GRAB: Message = Message(17, 1, &[Arg::Object(12), Arg::Uint(3)]);
+const FIRST_GRAB: Ask = Ask::Grab(17, 12, 3);
 
-/// Its grab is refused while the client 2 grabs, and its popup is dismissed; that of the client 2 isn't.
+/// Its grab is refused while the client 2 grabs, and its popup is dismissed; that of the client 2
+/// isn't.
 const FIRST_REFUSED: &[Row] = &[
-    Row::Accepts(FIRST_GRAB, &[Message(17, 1, &[])]),
+    Row::Accepts(FIRST_GRAB, &[Event::PopupDone(17)]),
     Row::ToldOf(2, &[]),
     Row::Shows(0, 0, &[Pixel(8, 8, 0, 255, 0)]),
 ];
 
 /// It is taken while nobody else grabs.
-const FIRST_GRABS: &[Row] = &[Row::Accepts(FIRST_GRAB, &[]), Row::ToldOf(2, &[])];
+const FIRST_GRABS: &[Row] = &[Row::Untold(FIRST_GRAB), Row::ToldOf(2, &[])];
 
 /// A grab of the client 2 is refused while the client 1 has one.
 const SECOND_REFUSED: &[Row] = &[
-    Row::From(2, Message(17, 1, &[Arg::Object(12), Arg::Uint(3)])),
+    Row::From(2, Ask::Grab(17, 12, 3)),
     Row::ToldOf(2, &[SECOND_DISMISSED]),
     Row::ToldOf(1, &[]),
 ];
 
 /// The popup of the client 2 goes, or its client.
 const SECOND_DESTROYS: &[Row] = &[
-    Row::From(2, Message(17, 0, &[])),
-    Row::ToldOf(2, &[Message(1, 1, &[Arg::Uint(17)])]),
+    Row::From(2, Ask::PopupDestroy(17)),
+    Row::ToldOf(2, &[Event::DeleteId(17)]),
 ];
 
 const SECOND_ENDS: &[Row] = &[

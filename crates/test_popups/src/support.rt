@@ -2,10 +2,11 @@
 
 use crate::parts::{Case, first_missed};
 use std::alloc::Global;
+use test_rows::asks::Ask;
 use test_rows::begun::{ACKNOWLEDGES, BUFFERS, CONFIGURES, GLOBALS, MADE, MAPS, RED_10};
-use test_rows::rows::{Fault, Message, REGISTRY, Row};
+use test_rows::events::Event;
+use test_rows::rows::{Fault, REGISTRY, Row};
 use wl_session::{Config, Rgb};
-use wl_wire::Arg;
 
 /// The output, which is as wide as the rows read frames.
 pub(crate) const OUTPUT: Config = Config {
@@ -14,7 +15,8 @@ pub(crate) const OUTPUT: Config = Config {
     background: Rgb { r: 0, g: 0, b: 0 },
 };
 
-/// The surface 6 with its toplevel 8 shows the buffer 10, which is all red, at (0, 0), and was painted.
+/// The surface 6 with its toplevel 8 shows the buffer 10, which is all red, at (0, 0), and was
+/// painted.
 pub(crate) const SHOWN: &[&[Row]] = &[
     REGISTRY,
     GLOBALS,
@@ -24,80 +26,58 @@ pub(crate) const SHOWN: &[&[Row]] = &[
     BUFFERS,
     RED_10,
     MAPS,
-    &[Row::Shows(1600, 1600, &[])],
+    &[Row::Paints(1600, 1600)],
 ];
 
-/// The positioner 16 places a popup of 8 by 8 pixels at the lower right corner of a rectangle of 40 by 40.
+/// The positioner 16 places a popup of 8 by 8 pixels at the lower right corner of a rectangle of 40
+/// by 40.
 pub(crate) const POSITIONER: &[Row] = &[
-    Row::Sends(Message(5, 1, &[Arg::NewId(16)])),
-    Row::Sends(Message(16, 1, &[Arg::Int(8), Arg::Int(8)])),
-    Row::Sends(Message(
-        16,
-        2,
-        &[Arg::Int(0), Arg::Int(0), Arg::Int(40), Arg::Int(40)],
-    )),
-    Row::Sends(Message(16, 3, &[Arg::Uint(8)])),
-    Row::Sends(Message(16, 4, &[Arg::Uint(8)])),
+    Row::Sends(Ask::CreatePositioner(5, 16)),
+    Row::Sends(Ask::SetSize(16, 8, 8)),
+    Row::Sends(Ask::SetAnchorRect(16, 0, 0, 40, 40)),
+    Row::Sends(Ask::SetAnchor(16, 8)),
+    Row::Sends(Ask::SetGravity(16, 8)),
 ];
 
 /// The surface 14 with its xdg_surface 15.
 pub(crate) const SURFACE: &[Row] = &[
-    Row::Sends(Message(3, 0, &[Arg::NewId(14)])),
-    Row::Sends(Message(5, 2, &[Arg::NewId(15), Arg::Object(14)])),
+    Row::Sends(Ask::CreateSurface(3, 14)),
+    Row::Sends(Ask::GetXdgSurface(5, 15, 14)),
 ];
 
 /// xdg_surface.get_popup: the popup 17 of the surface 14, on the toplevel.
-pub(crate) const GET_POPUP: Message = Message(
-    15,
-    2,
-    &[Arg::NewId(17), Arg::Object(7), Arg::Object(16)],
-);
+pub(crate) const GET_POPUP: Ask = Ask::GetPopup(15, 17, 7, 16);
 
-pub(crate) const COMMIT_14: Message = Message(14, 6, &[]);
+pub(crate) const COMMIT_14: Ask = Ask::Commit(14);
 
 /// xdg_popup.configure of the popup 17 at the lower right corner of the toplevel.
-pub(crate) const PLACED: Message = Message(
-    17,
-    0,
-    &[Arg::Int(40), Arg::Int(40), Arg::Int(8), Arg::Int(8)],
-);
+pub(crate) const PLACED: Event = Event::PopupConfigure(17, 40, 40, 8, 8);
 
 /// The buffer 18 of the pool 9 at its start: 8 by 8 pixels with a stride of 32, of the format 1.
-pub(crate) const BUFFER_18: Message = Message(
-    9,
-    0,
-    &[
-        Arg::NewId(18),
-        Arg::Int(0),
-        Arg::Int(8),
-        Arg::Int(8),
-        Arg::Int(32),
-        Arg::Uint(1),
-    ],
-);
+pub(crate) const BUFFER_18: Ask = Ask::CreateBuffer(9, 18, 0, 8, 8, 32, 1);
 
 /// wl_surface.attach of the surface 14: the buffer 18, or none.
-pub(crate) const ATTACH_18: Message = Message(14, 1, &[Arg::Object(18), Arg::Int(0), Arg::Int(0)]);
+pub(crate) const ATTACH_18: Ask = Ask::Attach(14, 18);
 
-pub(crate) const DETACH_14: Message = Message(14, 1, &[Arg::Object(0), Arg::Int(0), Arg::Int(0)]);
+pub(crate) const DETACH_14: Ask = Ask::Attach(14, 0);
 
 /// wl_buffer.release of the buffer 18.
-pub(crate) const RELEASED_18: Message = Message(18, 0, &[]);
+pub(crate) const RELEASED_18: Event = Event::Release(18);
 
 /// The popup 17 is placed by its first commit.
 pub(crate) const POPUP: &[Row] = &[
     Row::Sends(GET_POPUP),
-    Row::Waits(1, Some(&[])),
-    Row::Accepts(COMMIT_14, &[PLACED, Message(15, 0, &[Arg::Uint(2)])]),
+    Row::Silent(1),
+    Row::Accepts(COMMIT_14, &[PLACED, Event::Configure(15, 2)]),
 ];
 
 /// The configure is acknowledged, and the popup is mapped with the buffer 18.
 pub(crate) const POPUP_MAPS: &[Row] = &[
-    Row::Sends(Message(15, 4, &[Arg::Uint(2)])),
+    Row::Sends(Ask::AckConfigure(15, 2)),
     Row::Sends(BUFFER_18),
     Row::Sends(ATTACH_18),
     Row::Sends(COMMIT_14),
-    Row::Waits(1, Some(&[])),
+    Row::Silent(1),
 ];
 
 /// The first of the cases that isn't as wanted after the toplevel was painted, and what wasn't.

@@ -2,5 +2,8 @@
 //! what many of them begin with. The product doesn't use it.
 #![tactic(auto)]
 
+pub mod asks;
 pub mod begun;
+pub mod events;
 pub mod rows;
+mod words;

@@ -1,19 +1,16 @@
 //! Sessions as tables: rows of what is done in a session, or of how it is, each with what is wanted
 //! of it.
 
+use crate::asks::{Ask, Interface, bytes_of};
+use crate::events::{Event, error_bytes, told_bytes};
 use std::alloc::Global;
 use wl_session::{Cause, Config, Done, Fed, Rgb, Session, ShownWindow, Step, Stored};
-use wl_wire::{Arg, put};
 
 pub const CONFIG: Config = Config {
     width: 64,
     height: 64,
     background: Rgb { r: 0, g: 0, b: 0 },
 };
-
-/// A message: the object that it is to or from, its opcode and its arguments.
-#[derive(Clone, Copy)]
-pub struct Message<'a>(pub u32, pub u16, pub &'a [Arg<'a>]);
 
 /// A pixel of a frame: its column, its row, and its colour as red, green and blue.
 #[derive(Clone, Copy)]
@@ -33,18 +30,20 @@ pub enum Row<'a> {
     Calls(Step<'a>, Done),
     /// A step, made by `step`, and its answer.
     Steps(Step<'a>, Done),
-    /// The client 1 sends a message and lives on.
-    Sends(Message<'a>),
-    /// A client sends a message and lives on.
-    From(u32, Message<'a>),
+    /// The client 1 asks something and lives on.
+    Sends(Ask),
+    /// A client asks something and lives on.
+    From(u32, Ask),
     /// The client 1 binds by its registry 2: a global's name, interface and version, and the new
     /// id. How the client is afterwards.
-    Binds(u32, &'a [u8], u32, u32, Fed),
-    /// The client 1 sends a message and lives on. What waits for it then are these messages, and
-    /// they are taken.
-    Accepts(Message<'a>, &'a [Message<'a>]),
-    /// The client 1 sends a message, and ends by an error of this object and code.
-    Errs(Message<'a>, u32, u32),
+    Binds(u32, Interface, u32, u32, Fed),
+    /// The client 1 asks something and lives on. What waits for it then are these events, and they
+    /// are taken.
+    Accepts(Ask, &'a [Event]),
+    /// The client 1 asks something and lives on, and nothing waits for it then.
+    Untold(Ask),
+    /// The client 1 asks something, and ends by an error of this object and code.
+    Errs(Ask, u32, u32),
     /// A piece of the client 1 comes byte by byte. Nothing waits for it before each byte, and it
     /// lives on.
     Drips(&'a [u8]),
@@ -65,22 +64,24 @@ pub enum Row<'a> {
     /// The client 1 makes each surface with these ids a subsurface of the one before it by its
     /// wl_subcompositor 9, and lives on. The new ids are 100 more.
     Nests(u32, u32),
-    /// The client 1 sends two messages by turns, each so many times, and lives on.
-    Changes(u32, Message<'a>, Message<'a>),
+    /// The client 1 asks two things by turns, each so many times, and lives on.
+    Changes(u32, Ask, Ask),
     /// All that waits for the client 1 is taken.
     Takes,
     /// All that waits for a client is taken.
     TakesOf(u32),
     /// So many pixels of a client's store from a byte on get this value: blue, green, red and
     /// alpha.
-    Fills(u32, u32, u32, u32, &'a [u8]),
+    Fills(u32, u32, u32, u32, [u8; 4]),
     /// A pixel of the store 1 of a client at a byte gets this value, of which nothing is told. At
-    /// the tick after it nothing is damaged, and all is as at the one before but in the columns and
-    /// rows of this span.
-    Spoils(u32, u32, &'a [u8], Span),
+    /// the tick after it nothing is damaged, and all is as at
+    /// the one before but in the columns and rows of this span.
+    Spoils(u32, u32, [u8; 4], Span),
     /// A tick: how many points of its frame are damaged at least and at most, and some of its
     /// pixels.
     Shows(u32, u32, &'a [Pixel]),
+    /// A tick: how many points of its frame are damaged at least and at most.
+    Paints(u32, u32),
     /// The windows of the output, from bottom to top.
     Stacked(&'a [ShownWindow]),
     /// A tick at a time, and how many points of its frame are damaged.
@@ -91,14 +92,16 @@ pub enum Row<'a> {
     Maximizes(u32, u32),
     /// How a client is.
     Is(u32, Fed),
+    /// Nothing waits for a client.
+    Silent(u32),
     /// The bytes that wait for a client. None where no client has the number.
     Waits(u32, Option<&'a [u8]>),
     /// The first bytes that wait for the client 1.
     Starts(&'a [u8]),
-    /// The messages that wait for the client 1.
-    Told(&'a [Message<'a>]),
-    /// The messages that wait for a client, which are taken.
-    ToldOf(u32, &'a [Message<'a>]),
+    /// The events that wait for the client 1.
+    Told(&'a [Event]),
+    /// The events that wait for a client, which are taken.
+    ToldOf(u32, &'a [Event]),
     /// The one wl_display.error, of this object, code and text, that waits for the client 1.
     ErrorTold(u32, u32, &'a [u8]),
     /// How many bytes wait for the client 1.
@@ -121,7 +124,7 @@ pub const CLIENT: &[Row] = &[Row::Calls(Step::Connect, Done::Connect(Ok(1)))];
 /// A client with the registry 2, whose globals were sent.
 pub const REGISTRY: &[Row] = &[
     Row::Calls(Step::Connect, Done::Connect(Ok(1))),
-    Row::Sends(Message(1, 1, &[Arg::NewId(2)])),
+    Row::Sends(Ask::GetRegistry(2)),
     Row::Takes,
 ];
 
@@ -132,47 +135,19 @@ fn protocol(object: u32, code: u32) -> Fed {
     Fed::Ended(Cause::Protocol { object, code })
 }
 
-/// The bytes of messages. None where there is no memory for them.
-pub fn bytes_of(alloc: Global, messages: &[Message]) -> Option<Vec<u8, Global>> {
-    let mut bytes = Vec::new(alloc);
-    for &Message(object, opcode, args) in messages {
-        match put(&mut bytes, object, opcode, args) {
-            Ok(()) => {}
-            Err(_) => return None,
-        }
-    }
-    Some(bytes)
-}
-
-/// How a client is after a message. None where there is no memory for its bytes.
-fn sent_by(
-    alloc: Global,
-    session: &mut Session<Global>,
-    client: u32,
-    message: Message,
-) -> Option<Fed> {
-    let bytes = bytes_of(alloc, &[message])?;
+/// How a client is after what it asks. None where there is no memory for the bytes.
+fn sent_by(alloc: Global, session: &mut Session<Global>, client: u32, ask: Ask) -> Option<Fed> {
+    let bytes = bytes_of(alloc, &[ask])?;
     Some(session.feed(client, &bytes))
 }
 
-/// How the client 1 is after a message.
-fn sent(alloc: Global, session: &mut Session<Global>, message: Message) -> Option<Fed> {
-    sent_by(alloc, session, 1, message)
+/// How the client 1 is after what it asks.
+fn sent(alloc: Global, session: &mut Session<Global>, ask: Ask) -> Option<Fed> {
+    sent_by(alloc, session, 1, ask)
 }
 
-/// What wl_registry.bind is sent with: a global's name, interface and version, and the new id.
-fn bind_args<'a>(name: u32, interface: &'a [u8], version: u32, id: u32) -> [Arg<'a>; 4] {
-    [
-        Arg::Uint(name),
-        Arg::Str(interface),
-        Arg::Uint(version),
-        Arg::NewId(id),
-    ]
-}
-
-/// How the client 1 is after wl_registry.bind by its registry 2.
-fn bind(alloc: Global, session: &mut Session<Global>, args: &[Arg]) -> Option<Fed> {
-    sent(alloc, session, Message(2, 0, args))
+fn lives(alloc: Global, session: &mut Session<Global>, ask: Ask) -> bool {
+    sent(alloc, session, ask) == Some(Fed::Alive)
 }
 
 fn waiting(session: &Session<Global>) -> usize {
@@ -184,16 +159,9 @@ fn take_all(session: &mut Session<Global>) -> bool {
     session.sent(1, count)
 }
 
-/// Whether the client 1 lives on after a message, and is told these.
-fn accepts(
-    alloc: Global,
-    session: &mut Session<Global>,
-    message: Message,
-    told: &[Message],
-) -> bool {
-    sent(alloc, session, message) == Some(Fed::Alive)
-        && is_told(alloc, session, told)
-        && take_all(session)
+/// Whether the client 1 lives on after what it asks, and is told this.
+fn accepts(alloc: Global, session: &mut Session<Global>, ask: Ask, told: &[Event]) -> bool {
+    lives(alloc, session, ask) && is_told(alloc, session, told) && take_all(session)
 }
 
 fn take_all_of(session: &mut Session<Global>, client: u32) -> bool {
@@ -294,15 +262,15 @@ pub fn has_out(session: &Session<Global>, client: u32, bytes: &[u8]) -> bool {
     }
 }
 
-fn is_told_of(alloc: Global, session: &Session<Global>, client: u32, messages: &[Message]) -> bool {
-    match bytes_of(alloc, messages) {
+fn is_told_of(alloc: Global, session: &Session<Global>, client: u32, events: &[Event]) -> bool {
+    match told_bytes(alloc, events) {
         Some(bytes) => has_out(session, client, &bytes),
         None => false,
     }
 }
 
-fn is_told(alloc: Global, session: &Session<Global>, messages: &[Message]) -> bool {
-    is_told_of(alloc, session, 1, messages)
+fn is_told(alloc: Global, session: &Session<Global>, events: &[Event]) -> bool {
+    is_told_of(alloc, session, 1, events)
 }
 
 fn is_error_told(
@@ -312,8 +280,10 @@ fn is_error_told(
     code: u32,
     text: &[u8],
 ) -> bool {
-    let args = [Arg::Object(object), Arg::Uint(code), Arg::Str(text)];
-    is_told(alloc, session, &[Message(1, 0, &args)])
+    match error_bytes(alloc, object, code, text) {
+        Some(bytes) => has_out(session, 1, &bytes),
+        None => false,
+    }
 }
 
 /// Makes a step by its own call.
@@ -379,7 +349,7 @@ fn connect(session: &mut Session<Global>, first: u32, past: u32) -> bool {
 
 fn get_registries(alloc: Global, session: &mut Session<Global>, first: u32, past: u32) -> bool {
     for id in first..past {
-        sent(alloc, session, Message(1, 1, &[Arg::NewId(id)]));
+        sent(alloc, session, Ask::GetRegistry(id));
         take_all(session);
     }
     true
@@ -387,19 +357,18 @@ fn get_registries(alloc: Global, session: &mut Session<Global>, first: u32, past
 
 fn bind_compositors(alloc: Global, session: &mut Session<Global>, first: u32, past: u32) -> bool {
     for id in first..past {
-        bind(alloc, session, &bind_args(1, b"wl_compositor", 2, id));
+        sent(
+            alloc,
+            session,
+            Ask::Bind(2, 1, Interface::Compositor, 2, id),
+        );
     }
     true
 }
 
 fn make_pools(alloc: Global, session: &mut Session<Global>, first: u32, past: u32) -> bool {
     for id in first..past {
-        let made = sent(
-            alloc,
-            session,
-            Message(4, 0, &[Arg::NewId(id), Arg::Int(1)]),
-        );
-        if made != Some(Fed::Alive) {
+        if !lives(alloc, session, Ask::CreatePool(4, id, 1)) {
             return false;
         }
     }
@@ -408,7 +377,7 @@ fn make_pools(alloc: Global, session: &mut Session<Global>, first: u32, past: u3
 
 fn make_regions(alloc: Global, session: &mut Session<Global>, first: u32, past: u32) -> bool {
     for id in first..past {
-        if sent(alloc, session, Message(3, 1, &[Arg::NewId(id)])) != Some(Fed::Alive) {
+        if !lives(alloc, session, Ask::CreateRegion(3, id)) {
             return false;
         }
     }
@@ -417,7 +386,7 @@ fn make_regions(alloc: Global, session: &mut Session<Global>, first: u32, past: 
 
 fn make_surfaces(alloc: Global, session: &mut Session<Global>, first: u32, past: u32) -> bool {
     for id in first..past {
-        if sent(alloc, session, Message(3, 0, &[Arg::NewId(id)])) != Some(Fed::Alive) {
+        if !lives(alloc, session, Ask::CreateSurface(3, id)) {
             return false;
         }
     }
@@ -426,37 +395,37 @@ fn make_surfaces(alloc: Global, session: &mut Session<Global>, first: u32, past:
 
 fn nest(alloc: Global, session: &mut Session<Global>, first: u32, past: u32) -> bool {
     for id in first..past {
-        let args = [
-            Arg::NewId(id.saturating_add(100)),
-            Arg::Object(id),
-            Arg::Object(id.saturating_sub(1)),
-        ];
-        if sent(alloc, session, Message(9, 1, &args)) != Some(Fed::Alive) {
+        let ask = Ask::GetSubsurface(9, id.saturating_add(100), id, id.saturating_sub(1));
+        if !lives(alloc, session, ask) {
             return false;
         }
     }
     true
 }
 
-fn change(alloc: Global, session: &mut Session<Global>, count: u32, messages: &[Message]) -> bool {
+fn feed_by_turns(session: &mut Session<Global>, count: u32, one: &[u8], other: &[u8]) -> bool {
     for _ in 0..count {
-        for &message in messages {
-            if sent(alloc, session, message) != Some(Fed::Alive) {
-                return false;
-            }
+        if session.feed(1, one) != Fed::Alive || session.feed(1, other) != Fed::Alive {
+            return false;
         }
     }
     true
 }
 
+fn change(alloc: Global, session: &mut Session<Global>, count: u32, asks: [Ask; 2]) -> bool {
+    match (bytes_of(alloc, &[asks[0]]), bytes_of(alloc, &[asks[1]])) {
+        (Some(one), Some(other)) => feed_by_turns(session, count, &one, &other),
+        _ => false,
+    }
+}
+
 /// xdg_toplevel.configure of the toplevel 8: of no size, and activated.
-const CONFIGURED: Message = Message(8, 0, &[Arg::Int(0), Arg::Int(0), Arg::Array(&[4, 0, 0, 0])]);
+const CONFIGURED: Event = Event::ToplevelConfigure(8, 0, 0);
 
 fn maximize(alloc: Global, session: &mut Session<Global>, first: u32, past: u32) -> bool {
     for serial in first..past {
-        let args = [Arg::Uint(serial)];
-        let told = [CONFIGURED, Message(7, 0, &args)];
-        if !accepts(alloc, session, Message(8, 9, &[]), &told) {
+        let told = [CONFIGURED, Event::Configure(7, serial)];
+        if !accepts(alloc, session, Ask::SetMaximized(8), &told) {
             return false;
         }
     }
@@ -473,17 +442,15 @@ fn is_met(alloc: Global, session: &mut Session<Global>, row: &Row) -> bool {
     match *row {
         Row::Calls(step, wanted) => called(session, &step) == wanted,
         Row::Steps(step, wanted) => session.step(&step) == wanted,
-        Row::Sends(message) => sent(alloc, session, message) == Some(Fed::Alive),
-        Row::From(client, message) => {
-            sent_by(alloc, session, client, message) == Some(Fed::Alive)
-        }
+        Row::Sends(ask) => lives(alloc, session, ask),
+        Row::From(client, ask) => sent_by(alloc, session, client, ask) == Some(Fed::Alive),
         Row::Binds(name, interface, version, id, fed) => {
-            bind(alloc, session, &bind_args(name, interface, version, id)) == Some(fed)
+            let ask = Ask::Bind(2, name, interface, version, id);
+            sent(alloc, session, ask) == Some(fed)
         }
-        Row::Accepts(message, told) => accepts(alloc, session, message, told),
-        Row::Errs(message, object, code) => {
-            sent(alloc, session, message) == Some(protocol(object, code))
-        }
+        Row::Accepts(ask, told) => accepts(alloc, session, ask, told),
+        Row::Untold(ask) => lives(alloc, session, ask) && has_out(session, 1, &[]),
+        Row::Errs(ask, object, code) => sent(alloc, session, ask) == Some(protocol(object, code)),
         Row::Drips(piece) => drip(session, piece),
         Row::Syncs(count) => sync(session, count),
         Row::Connects(first, past) => connect(session, first, past),
@@ -493,31 +460,35 @@ fn is_met(alloc: Global, session: &mut Session<Global>, row: &Row) -> bool {
         Row::MakesPools(first, past) => make_pools(alloc, session, first, past),
         Row::MakesSurfaces(first, past) => make_surfaces(alloc, session, first, past),
         Row::Nests(first, past) => nest(alloc, session, first, past),
-        Row::Changes(count, one, other) => change(alloc, session, count, &[one, other]),
+        Row::Changes(count, one, other) => change(alloc, session, count, [one, other]),
         Row::Takes => take_all(session),
         Row::TakesOf(client) => take_all_of(session, client),
         Row::Fills(client, store, at, count, pixel) => {
-            fill(session, &Place { client, store, at }, count, pixel)
+            let [b, g, r, a] = pixel;
+            fill(session, &Place { client, store, at }, count, &[b, g, r, a])
         }
         Row::Spoils(client, at, pixel, span) => {
+            let [b, g, r, a] = pixel;
             let place = Place {
                 client,
                 store: 1,
                 at,
             };
-            spoil(alloc, session, &place, pixel, span)
+            spoil(alloc, session, &place, &[b, g, r, a], span)
         }
         Row::Shows(least, most, pixels) => shows(session, least, most, pixels),
+        Row::Paints(least, most) => shows(session, least, most, &[]),
         Row::Stacked(windows) => are_windows(session, windows),
         Row::Ticks(time, count) => ticks(session, time, count),
         Row::Maximizes(first, past) => maximize(alloc, session, first, past),
         Row::Is(client, wanted) => session.status(client) == wanted,
+        Row::Silent(client) => has_out(session, client, &[]),
         Row::Waits(client, Some(bytes)) => has_out(session, client, bytes),
         Row::Waits(client, None) => session.out(client).is_none(),
         Row::Starts(bytes) => session.out(1).unwrap_or(&[]).starts_with(bytes),
-        Row::Told(messages) => is_told(alloc, session, messages),
-        Row::ToldOf(client, messages) => {
-            is_told_of(alloc, session, client, messages) && take_all_of(session, client)
+        Row::Told(events) => is_told(alloc, session, events),
+        Row::ToldOf(client, events) => {
+            is_told_of(alloc, session, client, events) && take_all_of(session, client)
         }
         Row::ErrorTold(object, code, text) => is_error_told(alloc, session, object, code, text),
         Row::Waiting(count) => waiting(session) == count,

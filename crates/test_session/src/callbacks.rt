@@ -1,36 +1,38 @@
-//! wl_surface.frame: after a frame a client is told that those of its callbacks are done whose requests a commit applied.
+//! wl_surface.frame: after a frame a client is told that those of its callbacks are done whose
+//! requests a commit applied.
 
+use test_rows::asks::Ask;
 use test_rows::begun::{ATTACH_NONE, COMMIT, MAPS, RED_10, missed_after_buffers};
-use test_rows::rows::{Case, Message, Pixel, Row};
+use test_rows::events::Event;
+use test_rows::rows::{Case, Pixel, Row};
 use wl_session::{Cause, Done, Fed, Step};
-use wl_wire::Arg;
 
 /// A frame at the time 7, in milliseconds.
 const TICK_7: Row = Row::Calls(Step::Tick { time: 7 }, Done::Tick);
 
 /// wl_surface.frame of the surface 6, with the new callback 14.
-const ASKS_14: Message = Message(6, 3, &[Arg::NewId(14)]);
+const ASKS_14: Ask = Ask::Frame(6, 14);
 
 /// wl_callback.done at the time 7, and the id is given back.
-const DONE_14: Message = Message(14, 0, &[Arg::Uint(7)]);
+const DONE_14: Event = Event::Done(14, 7);
 
-const FREED_14: Message = Message(1, 1, &[Arg::Uint(14)]);
+const FREED_14: Event = Event::DeleteId(14);
 
 /// Another surface, which has no role.
-const MAKES_15: Message = Message(3, 0, &[Arg::NewId(15)]);
+const MAKES_15: Ask = Ask::CreateSurface(3, 15);
 
-const COMMITS_15: Message = Message(15, 6, &[]);
+const COMMITS_15: Ask = Ask::Commit(15);
 
 /// It is told after the frame that follows the commit, and once. Then its id is free.
 const ANSWERED: &[Row] = &[
     Row::Sends(ASKS_14),
     Row::Sends(COMMIT),
-    Row::Waits(1, Some(&[])),
+    Row::Silent(1),
     TICK_7,
     Row::Told(&[DONE_14, FREED_14]),
     Row::Takes,
     TICK_7,
-    Row::Waits(1, Some(&[])),
+    Row::Silent(1),
     Row::Sends(ASKS_14),
 ];
 
@@ -38,9 +40,9 @@ const ANSWERED: &[Row] = &[
 const NOT_APPLIED: &[Row] = &[
     Row::Sends(ASKS_14),
     TICK_7,
-    Row::Waits(1, Some(&[])),
+    Row::Silent(1),
     Row::Sends(COMMIT),
-    Row::Waits(1, Some(&[])),
+    Row::Silent(1),
     TICK_7,
     Row::Told(&[DONE_14, FREED_14]),
 ];
@@ -48,26 +50,26 @@ const NOT_APPLIED: &[Row] = &[
 /// They come in the order of the requests, of whichever surface, and whether it is shown or not.
 const IN_ORDER: &[Row] = &[
     Row::Sends(MAKES_15),
-    Row::Sends(Message(6, 3, &[Arg::NewId(20)])),
-    Row::Sends(Message(15, 3, &[Arg::NewId(19)])),
-    Row::Sends(Message(6, 3, &[Arg::NewId(18)])),
+    Row::Sends(Ask::Frame(6, 20)),
+    Row::Sends(Ask::Frame(15, 19)),
+    Row::Sends(Ask::Frame(6, 18)),
     Row::Sends(COMMITS_15),
     Row::Sends(COMMIT),
     TICK_7,
     Row::Told(&[
-        Message(20, 0, &[Arg::Uint(7)]),
-        Message(1, 1, &[Arg::Uint(20)]),
-        Message(19, 0, &[Arg::Uint(7)]),
-        Message(1, 1, &[Arg::Uint(19)]),
-        Message(18, 0, &[Arg::Uint(7)]),
-        Message(1, 1, &[Arg::Uint(18)]),
+        Event::Done(20, 7),
+        Event::DeleteId(20),
+        Event::Done(19, 7),
+        Event::DeleteId(19),
+        Event::Done(18, 7),
+        Event::DeleteId(18),
     ]),
 ];
 
 /// A commit applies the requests of its own surface.
 const OF_ONE_SURFACE: &[Row] = &[
     Row::Sends(MAKES_15),
-    Row::Sends(Message(15, 3, &[Arg::NewId(16)])),
+    Row::Sends(Ask::Frame(15, 16)),
     Row::Sends(ASKS_14),
     Row::Sends(COMMIT),
     TICK_7,
@@ -75,52 +77,49 @@ const OF_ONE_SURFACE: &[Row] = &[
     Row::Takes,
     Row::Sends(COMMITS_15),
     TICK_7,
-    Row::Told(&[
-        Message(16, 0, &[Arg::Uint(7)]),
-        Message(1, 1, &[Arg::Uint(16)]),
-    ]),
+    Row::Told(&[Event::Done(16, 7), Event::DeleteId(16)]),
 ];
 
-/// Those of a surface that goes go with it: their ids are given back after its own, in the order of their requests.
+/// Those of a surface that goes go with it: their ids are given back after its own, in the order of
+/// their requests.
 const SURFACE_GONE: &[Row] = &[
     Row::Sends(MAKES_15),
-    Row::Sends(Message(15, 3, &[Arg::NewId(17)])),
+    Row::Sends(Ask::Frame(15, 17)),
     Row::Sends(COMMITS_15),
-    Row::Sends(Message(15, 3, &[Arg::NewId(16)])),
+    Row::Sends(Ask::Frame(15, 16)),
     Row::Sends(ASKS_14),
     Row::Sends(COMMIT),
-    Row::Sends(Message(15, 0, &[])),
+    Row::Sends(Ask::SurfaceDestroy(15)),
     Row::Told(&[
-        Message(1, 1, &[Arg::Uint(15)]),
-        Message(1, 1, &[Arg::Uint(17)]),
-        Message(1, 1, &[Arg::Uint(16)]),
+        Event::DeleteId(15),
+        Event::DeleteId(17),
+        Event::DeleteId(16),
     ]),
     Row::Takes,
     TICK_7,
     Row::Told(&[DONE_14, FREED_14]),
 ];
 
-/// The commit that unmaps a window applies them too; its answer, the release of the buffer, comes before.
+/// The commit that unmaps a window applies them too; its answer, the release of the buffer, comes
+/// before.
 const UNMAPPED: &[Row] = &[
     Row::Sends(ASKS_14),
     Row::Sends(ATTACH_NONE),
     Row::Sends(COMMIT),
-    Row::Told(&[Message(10, 0, &[])]),
+    Row::Told(&[Event::Release(10)]),
     Row::Takes,
     TICK_7,
     Row::Told(&[DONE_14, FREED_14]),
 ];
 
-/// A client to which it can't be told any more ends: regions that came and went left room for wl_callback.done, and none for
-/// wl_display.delete_id. Its window is in that frame, and not in the next, which paints the points that it had, and no more.
+/// A client to which it can't be told any more ends: regions that came and went left room for
+/// wl_callback.done, and none for
+/// wl_display.delete_id. Its window is in that frame, and not in the next, which paints the points
+/// that it had, and no more.
 const TOO_SLOW: &[Row] = &[
     Row::Sends(ASKS_14),
     Row::Sends(COMMIT),
-    Row::Changes(
-        87_380,
-        Message(3, 1, &[Arg::NewId(16)]),
-        Message(16, 0, &[]),
-    ),
+    Row::Changes(87_380, Ask::CreateRegion(3, 16), Ask::RegionDestroy(16)),
     Row::Waiting(1_048_560),
     Row::Is(1, Fed::Alive),
     Row::Shows(1600, 1600, &[Pixel(0, 0, 255, 0, 0)]),

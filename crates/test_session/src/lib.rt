@@ -1,4 +1,5 @@
-//! Tests of a session by tables of what is done in one and what is wanted of it (rows): registries, requests that are accepted, pools, regions and recordings.
+//! Tests of a session by tables of what is done in one and what is wanted of it (rows): registries,
+//! requests that are accepted, pools, regions and recordings.
 #![tactic(auto)]
 
 #[cfg(test)]

@@ -1,17 +1,18 @@
 //! Pools, buffers and the stores behind them.
 
 use std::alloc::Global;
+use test_rows::asks::Ask;
 use test_rows::begun::{BUFFER_10, BUFFER_11, BUFFERS, POOL_12800, SHM};
-use test_rows::rows::{Case, Fault, Message, REGISTRY, Row, first_missed_case};
+use test_rows::events::Event;
+use test_rows::rows::{Case, Fault, REGISTRY, Row, first_missed_case};
 use wl_session::{Cause, Done, Fed, Step, Stored};
-use wl_wire::Arg;
 
-const POOL_12799: Message = Message(4, 0, &[Arg::NewId(9), Arg::Int(12799)]);
+const POOL_12799: Ask = Ask::CreatePool(4, 9, 12799);
 
-const POOL_6399: Message = Message(4, 0, &[Arg::NewId(9), Arg::Int(6399)]);
+const POOL_6399: Ask = Ask::CreatePool(4, 9, 6399);
 
 const STORED: &[Row] = &[
-    Row::Waits(1, Some(&[])),
+    Row::Silent(1),
     Row::Store(1, 1, Some(12800)),
     Row::Calls(
         Step::Store {
@@ -99,14 +100,14 @@ const ENDED: &[Row] = &[
 
 const DESTROYED: &[Row] = &[
     Row::Takes,
-    Row::Sends(Message(10, 0, &[])),
-    Row::Told(&[Message(1, 1, &[Arg::Uint(10)])]),
+    Row::Sends(Ask::BufferDestroy(10)),
+    Row::Told(&[Event::DeleteId(10)]),
 ];
 
 const LIVES: &[Row] = &[
     Row::Takes,
-    Row::Sends(Message(9, 1, &[])),
-    Row::Told(&[Message(1, 1, &[Arg::Uint(9)])]),
+    Row::Sends(Ask::PoolDestroy(9)),
+    Row::Told(&[Event::DeleteId(9)]),
     Row::Calls(
         Step::Store {
             client: 1,
@@ -117,40 +118,40 @@ const LIVES: &[Row] = &[
         Done::Store(Stored::Done),
     ),
     Row::Takes,
-    Row::Sends(Message(10, 0, &[])),
+    Row::Sends(Ask::BufferDestroy(10)),
     Row::Store(1, 1, Some(12800)),
     Row::Takes,
-    Row::Sends(Message(11, 0, &[])),
+    Row::Sends(Ask::BufferDestroy(11)),
     Row::Store(1, 1, None),
 ];
 
 const SECOND_STORE: &[Row] = &[
-    Row::Sends(Message(4, 0, &[Arg::NewId(12), Arg::Int(7)])),
+    Row::Sends(Ask::CreatePool(4, 12, 7)),
     Row::Store(1, 2, Some(7)),
 ];
 
 const RESIZED: &[Row] = &[
-    Row::Sends(Message(9, 2, &[Arg::Int(12800)])),
-    Row::Sends(Message(9, 2, &[Arg::Int(12801)])),
+    Row::Sends(Ask::PoolResize(9, 12800)),
+    Row::Sends(Ask::PoolResize(9, 12801)),
     Row::Store(1, 1, Some(12801)),
     Row::Takes,
-    Row::Errs(Message(9, 2, &[Arg::Int(12800)]), 9, 2),
+    Row::Errs(Ask::PoolResize(9, 12800), 9, 2),
     Row::ErrorTold(9, 2, b"invalid_fd"),
 ];
 
 const NO_BYTES: &[Row] = &[
-    Row::Errs(Message(4, 0, &[Arg::NewId(9), Arg::Int(0)]), 4, 1),
+    Row::Errs(Ask::CreatePool(4, 9, 0), 4, 1),
     Row::ErrorTold(4, 1, b"invalid_stride"),
 ];
 
 const TOO_MANY_BYTES: &[Row] = &[
-    Row::Errs(Message(4, 0, &[Arg::NewId(9), Arg::Int(268435457)]), 1, 3),
+    Row::Errs(Ask::CreatePool(4, 9, 268435457), 1, 3),
     Row::ErrorTold(1, 3, b"implementation"),
 ];
 
 const STORE_65: &[Row] = &[
     Row::MakesPools(5, 69),
-    Row::Errs(Message(4, 0, &[Arg::NewId(69), Arg::Int(0)]), 1, 3),
+    Row::Errs(Ask::CreatePool(4, 69, 0), 1, 3),
 ];
 
 const WITHIN: &[Row] = &[
@@ -174,22 +175,7 @@ const SHORT: &[Row] = &[
 
 const BAD_FORMAT: &[Row] = &[
     Row::Sends(POOL_6399),
-    Row::Errs(
-        Message(
-            9,
-            0,
-            &[
-                Arg::NewId(10),
-                Arg::Int(0),
-                Arg::Int(40),
-                Arg::Int(40),
-                Arg::Int(160),
-                Arg::Uint(2),
-            ],
-        ),
-        9,
-        0,
-    ),
+    Row::Errs(Ask::CreateBuffer(9, 10, 0, 40, 40, 160, 2), 9, 0),
     Row::Is(1, Fed::Ended(Cause::Protocol { object: 9, code: 0 })),
     Row::ErrorTold(9, 0, b"invalid_format"),
 ];
@@ -214,7 +200,8 @@ const CASES_WITHOUT_BUFFERS: &[Case] = &[
     ("a store that is too short", &[SHORT]),
 ];
 
-/// The first of the cases that isn't as wanted after a pool and its buffers were made, and what wasn't.
+/// The first of the cases that isn't as wanted after a pool and its buffers were made, and what
+/// wasn't.
 fn missed_after_buffers(alloc: Global, cases: &[Case]) -> Option<(usize, Fault)> {
     first_missed_case(alloc, &[REGISTRY, SHM, BUFFERS], cases)
 }

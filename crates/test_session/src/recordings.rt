@@ -179,7 +179,7 @@ const GOES: &[Row] = &[
         Done::Feed(Fed::Alive),
     ),
     Row::Calls(Step::Gone { client: 1 }, Done::Gone(true)),
-    Row::Waits(1, Some(&[])),
+    Row::Silent(1),
     Row::Calls(CLOSE, Done::Close(true)),
     Row::Calls(
         Step::Feed {
@@ -248,7 +248,7 @@ const STEPS: &[Row] = &[
         },
         Done::Sent(true),
     ),
-    Row::Waits(1, Some(&[])),
+    Row::Silent(1),
     Row::Steps(Step::Gone { client: 1 }, Done::Gone(true)),
     Row::Steps(CLOSE, Done::Close(true)),
     Row::Steps(CLOSE, Done::Close(false)),

@@ -1,27 +1,30 @@
 //! Regions.
 
+use test_rows::asks::Ask;
 use test_rows::begun::SHM;
-use test_rows::rows::{Case, Message, REGISTRY, Row, first_missed_case};
-use wl_wire::Arg;
-
-const RECT: &[Arg] = &[Arg::Int(0), Arg::Int(0), Arg::Int(4), Arg::Int(4)];
+use test_rows::events::Event;
+use test_rows::rows::{Case, REGISTRY, Row, first_missed_case};
 
 /// The region 6.
-const REGION: &[Row] = &[Row::Sends(Message(3, 1, &[Arg::NewId(6)]))];
+const REGION: &[Row] = &[Row::Sends(Ask::CreateRegion(3, 6))];
 
 /// 512 changes, by turns wl_region.add and wl_region.subtract.
-const CHANGES: &[Row] = &[Row::Changes(256, Message(6, 1, RECT), Message(6, 2, RECT))];
+const CHANGES: &[Row] = &[Row::Changes(
+    256,
+    Ask::RegionAdd(6, 0, 0, 4, 4),
+    Ask::RegionSubtract(6, 0, 0, 4, 4),
+)];
 
 const CHANGE_513: &[Row] = &[
-    Row::Waits(1, Some(&[])),
-    Row::Errs(Message(6, 1, RECT), 1, 3),
+    Row::Silent(1),
+    Row::Errs(Ask::RegionAdd(6, 0, 0, 4, 4), 1, 3),
     Row::ErrorTold(1, 3, b"implementation"),
 ];
 
 const DESTROYED: &[Row] = &[
-    Row::Sends(Message(6, 0, &[])),
-    Row::Told(&[Message(1, 1, &[Arg::Uint(6)])]),
-    Row::Errs(Message(6, 1, RECT), 1, 0),
+    Row::Sends(Ask::RegionDestroy(6)),
+    Row::Told(&[Event::DeleteId(6)]),
+    Row::Errs(Ask::RegionAdd(6, 0, 0, 4, 4), 1, 0),
 ];
 
 const CASES: &[Case] = &[

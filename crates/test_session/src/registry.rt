@@ -1,13 +1,14 @@
 //! The registry, binds, and the order in which messages are refused.
 
 use std::alloc::Global;
+use test_rows::asks::{Ask, Interface};
 use test_rows::begun::ANNOUNCED;
+use test_rows::events::Event;
 use test_rows::rows::{
-    CLIENT, Case, Fault, INVALID_OBJECT, Message, REGISTRY, Row, SYNC, first_missed_case,
-    first_missed_row, play,
+    CLIENT, Case, Fault, INVALID_OBJECT, REGISTRY, Row, SYNC, first_missed_case, first_missed_row,
+    play,
 };
 use wl_session::{Cause, Done, Fed, Step};
-use wl_wire::Arg;
 
 /// The bytes of the first of them.
 const FIRST_GLOBAL: &[u8] = &[
@@ -16,160 +17,126 @@ const FIRST_GLOBAL: &[u8] = &[
 ];
 
 const GLOBALS_TOLD: &[Row] = &[
-    Row::Sends(Message(1, 1, &[Arg::NewId(2)])),
+    Row::Sends(Ask::GetRegistry(2)),
     Row::Told(ANNOUNCED),
     Row::Starts(FIRST_GLOBAL),
 ];
 
 /// Binds of each global: 3 to 8 in their order.
 const ALL_GLOBALS: &[Row] = &[
-    Row::Binds(1, b"wl_compositor", 2, 3, Fed::Alive),
-    Row::Binds(2, b"wl_subcompositor", 1, 4, Fed::Alive),
-    Row::Binds(3, b"wl_shm", 1, 5, Fed::Alive),
-    Row::Binds(4, b"wl_output", 1, 6, Fed::Alive),
-    Row::Binds(5, b"wl_seat", 1, 7, Fed::Alive),
-    Row::Binds(6, b"xdg_wm_base", 1, 8, Fed::Alive),
+    Row::Binds(1, Interface::Compositor, 2, 3, Fed::Alive),
+    Row::Binds(2, Interface::Subcompositor, 1, 4, Fed::Alive),
+    Row::Binds(3, Interface::Shm, 1, 5, Fed::Alive),
+    Row::Binds(4, Interface::Output, 1, 6, Fed::Alive),
+    Row::Binds(5, Interface::Seat, 1, 7, Fed::Alive),
+    Row::Binds(6, Interface::WmBase, 1, 8, Fed::Alive),
 ];
 
-/// wl_shm tells its formats, wl_output its geometry and its mode, wl_seat that it has a pointer, and the others nothing.
+/// wl_shm tells its formats, wl_output its geometry and its mode, wl_seat that it has a pointer,
+/// and the others nothing.
 const OBJECTS_TOLD: &[Row] = &[
     Row::Is(1, Fed::Alive),
     Row::Told(&[
-        Message(5, 0, &[Arg::Uint(0)]),
-        Message(5, 0, &[Arg::Uint(1)]),
-        Message(
-            6,
-            0,
-            &[
-                Arg::Int(0),
-                Arg::Int(0),
-                Arg::Int(0),
-                Arg::Int(0),
-                Arg::Int(0),
-                Arg::Str(b"wlframe"),
-                Arg::Str(b"framebuffer"),
-                Arg::Int(0),
-            ],
-        ),
-        Message(
-            6,
-            1,
-            &[Arg::Uint(3), Arg::Int(64), Arg::Int(64), Arg::Int(0)],
-        ),
-        Message(7, 0, &[Arg::Uint(1)]),
+        Event::Format(5, 0),
+        Event::Format(5, 1),
+        Event::Geometry(6),
+        Event::Mode(6, 3, 64, 64, 0),
+        Event::Capabilities(7, 1),
     ]),
 ];
 
 /// The versions of wl_compositor that are bound, and others.
 const VERSIONS: &[Row] = &[
-    Row::Binds(1, b"wl_compositor", 0, 3, INVALID_OBJECT),
-    Row::Binds(1, b"wl_compositor", 1, 3, Fed::Alive),
-    Row::Binds(1, b"wl_compositor", 2, 3, Fed::Alive),
-    Row::Binds(1, b"wl_compositor", 4, 3, Fed::Alive),
-    Row::Binds(1, b"wl_compositor", 5, 3, INVALID_OBJECT),
+    Row::Binds(1, Interface::Compositor, 0, 3, INVALID_OBJECT),
+    Row::Binds(1, Interface::Compositor, 1, 3, Fed::Alive),
+    Row::Binds(1, Interface::Compositor, 2, 3, Fed::Alive),
+    Row::Binds(1, Interface::Compositor, 4, 3, Fed::Alive),
+    Row::Binds(1, Interface::Compositor, 5, 3, INVALID_OBJECT),
 ];
 
 /// Those of xdg_wm_base.
 const SHELL_VERSIONS: &[Row] = &[
-    Row::Binds(6, b"xdg_wm_base", 0, 3, INVALID_OBJECT),
-    Row::Binds(6, b"xdg_wm_base", 2, 3, Fed::Alive),
-    Row::Binds(6, b"xdg_wm_base", 3, 3, Fed::Alive),
-    Row::Binds(6, b"xdg_wm_base", 4, 3, INVALID_OBJECT),
+    Row::Binds(6, Interface::WmBase, 0, 3, INVALID_OBJECT),
+    Row::Binds(6, Interface::WmBase, 2, 3, Fed::Alive),
+    Row::Binds(6, Interface::WmBase, 3, 3, Fed::Alive),
+    Row::Binds(6, Interface::WmBase, 4, 3, INVALID_OBJECT),
 ];
 
 const WRONG_NAMES: &[Row] = &[
-    Row::Binds(2, b"wl_compositor", 1, 3, INVALID_OBJECT),
-    Row::Binds(0, b"wl_compositor", 1, 3, INVALID_OBJECT),
-    Row::Binds(7, b"xdg_wm_base", 1, 3, INVALID_OBJECT),
-    Row::Binds(5, b"wl_sea", 1, 3, INVALID_OBJECT),
-    Row::Binds(5, b"wl_seat\0", 1, 3, INVALID_OBJECT),
+    Row::Binds(2, Interface::Compositor, 1, 3, INVALID_OBJECT),
+    Row::Binds(0, Interface::Compositor, 1, 3, INVALID_OBJECT),
+    Row::Binds(7, Interface::WmBase, 1, 3, INVALID_OBJECT),
+    Row::Binds(5, Interface::SeatCutShort, 1, 3, INVALID_OBJECT),
+    Row::Binds(5, Interface::SeatAndNul, 1, 3, INVALID_OBJECT),
 ];
 
 const WORD_TOO_MANY: &[Row] = &[
-    Row::Errs(Message(1, 0, &[Arg::NewId(2), Arg::Uint(0)]), 1, 1),
+    Row::Errs(Ask::Other(1, 0, 2, [2, 0, 0, 0]), 1, 1),
     Row::ErrorTold(1, 1, b"invalid_method"),
 ];
 
 const UNKNOWN_OBJECT: &[Row] = &[
-    Row::Errs(Message(7, 0, &[Arg::NewId(2)]), 1, 0),
+    Row::Errs(Ask::GetPointer(7, 2), 1, 0),
     Row::ErrorTold(1, 0, b"invalid_object"),
 ];
 
 /// An unknown object goes before an unknown opcode, and that before the arguments.
 const OBJECTS_AND_OPCODES: &[Row] = &[
-    Row::Errs(Message(9, 99, &[]), 1, 0),
-    Row::Errs(Message(2, 1, &[Arg::NewId(2)]), 1, 1),
-    Row::Errs(Message(6, 0, &[]), 1, 1),
+    Row::Errs(Ask::Other(9, 99, 0, [0; 4]), 1, 0),
+    Row::Errs(Ask::Other(2, 1, 1, [2, 0, 0, 0]), 1, 1),
+    Row::Errs(Ask::Other(6, 0, 0, [0; 4]), 1, 1),
 ];
 
-/// Arguments, and the objects that they name, go before a new id that is in use: no argument, a null text, objects that aren't
-/// there, an object of another interface, and a null object.
+/// Arguments, and the objects that they name, go before a new id that is in use. Tried are no
+/// argument, a null text, objects that aren't there, an object of another interface, and a null
+/// object.
 const ARGUMENTS: &[Row] = &[
-    Row::Errs(Message(1, 1, &[]), 1, 1),
-    Row::Errs(
-        Message(
-            2,
-            0,
-            &[Arg::Uint(1), Arg::Uint(0), Arg::Uint(1), Arg::NewId(2)],
-        ),
-        1,
-        1,
-    ),
-    Row::Errs(
-        Message(4, 1, &[Arg::NewId(2), Arg::Object(9), Arg::Object(9)]),
-        1,
-        1,
-    ),
-    Row::Errs(Message(8, 2, &[Arg::NewId(2), Arg::Object(3)]), 1, 1),
-    Row::Errs(Message(8, 2, &[Arg::NewId(9), Arg::Object(0)]), 1, 1),
+    Row::Errs(Ask::Other(1, 1, 0, [0; 4]), 1, 1),
+    Row::Errs(Ask::Other(2, 0, 4, [1, 0, 1, 2]), 1, 1),
+    Row::Errs(Ask::GetSubsurface(4, 2, 9, 9), 1, 1),
+    Row::Errs(Ask::GetXdgSurface(8, 2, 3), 1, 1),
+    Row::Errs(Ask::GetXdgSurface(8, 9, 0), 1, 1),
 ];
 
 /// A new id that is in use goes before the request's own errors.
 const NEW_IDS: &[Row] = &[
-    Row::Errs(Message(3, 0, &[Arg::NewId(2)]), 1, 0),
-    Row::Errs(Message(7, 1, &[Arg::NewId(2)]), 1, 0),
+    Row::Errs(Ask::CreateSurface(3, 2), 1, 0),
+    Row::Errs(Ask::GetKeyboard(7, 2), 1, 0),
 ];
 
 const KEYBOARD_AND_TOUCH: &[Row] = &[
-    Row::Errs(Message(7, 1, &[Arg::NewId(9)]), 7, 0),
-    Row::Errs(Message(7, 2, &[Arg::NewId(9)]), 7, 0),
+    Row::Errs(Ask::GetKeyboard(7, 9), 7, 0),
+    Row::Errs(Ask::GetTouch(7, 9), 7, 0),
 ];
 
 const KEYBOARD: &[Row] = &[
     Row::Takes,
-    Row::Errs(Message(7, 1, &[Arg::NewId(9)]), 7, 0),
+    Row::Errs(Ask::GetKeyboard(7, 9), 7, 0),
     Row::ErrorTold(7, 0, b"missing_capability"),
 ];
 
 /// The wl_surface 9 becomes a subsurface of 10.
 const SUBSURFACE: &[Row] = &[
-    Row::Sends(Message(3, 0, &[Arg::NewId(9)])),
-    Row::Sends(Message(3, 0, &[Arg::NewId(10)])),
-    Row::Sends(Message(4, 1, &[Arg::NewId(11), Arg::Object(9), Arg::Object(10)])),
+    Row::Sends(Ask::CreateSurface(3, 9)),
+    Row::Sends(Ask::CreateSurface(3, 10)),
+    Row::Sends(Ask::GetSubsurface(4, 11, 9, 10)),
 ];
 
-/// It becomes none once more, and no surface one of its own (wayland.xml, wl_subcompositor.get_subsurface).
+/// It becomes none once more, and no surface one of its own (wayland.xml,
+/// wl_subcompositor.get_subsurface).
 const SECOND_SUBSURFACE: &[Row] = &[
-    Row::Errs(
-        Message(4, 1, &[Arg::NewId(12), Arg::Object(9), Arg::Object(10)]),
-        4,
-        0,
-    ),
-    Row::Errs(
-        Message(4, 1, &[Arg::NewId(12), Arg::Object(10), Arg::Object(10)]),
-        4,
-        1,
-    ),
+    Row::Errs(Ask::GetSubsurface(4, 12, 9, 10), 4, 0),
+    Row::Errs(Ask::GetSubsurface(4, 12, 10, 10), 4, 1),
 ];
 
 /// The id of a wl_subcompositor is free once it was destroyed.
 const SUBCOMPOSITOR_DESTROYED: &[Row] = &[
     Row::Takes,
-    Row::Sends(Message(4, 0, &[])),
-    Row::Told(&[Message(1, 1, &[Arg::Uint(4)])]),
-    Row::Binds(2, b"wl_subcompositor", 1, 4, Fed::Alive),
-    Row::Sends(Message(4, 0, &[])),
-    Row::Errs(Message(4, 0, &[]), 1, 0),
+    Row::Sends(Ask::SubcompositorDestroy(4)),
+    Row::Told(&[Event::DeleteId(4)]),
+    Row::Binds(2, Interface::Subcompositor, 1, 4, Fed::Alive),
+    Row::Sends(Ask::SubcompositorDestroy(4)),
+    Row::Errs(Ask::SubcompositorDestroy(4), 1, 0),
 ];
 
 const TOO_SLOW: Done = Done::Feed(Fed::Ended(Cause::Slow));
@@ -215,62 +182,51 @@ const NO_ROOM: &[Row] = &[
 
 /// The client has 8,192 objects: wl_display, the registry 2, the seat 3, and compositors.
 const FULL: &[Row] = &[
-    Row::Binds(5, b"wl_seat", 1, 3, Fed::Alive),
+    Row::Binds(5, Interface::Seat, 1, 3, Fed::Alive),
     Row::BindsCompositors(4, 8_193),
     Row::Is(1, Fed::Alive),
     Row::Takes,
 ];
 
-/// The limit on objects is looked at before the request's own errors: of a sync, a wl_seat.get_keyboard, and a bind of a
+/// The limit on objects is looked at before the request's own errors: of a sync, a
+/// wl_seat.get_keyboard, and a bind of a
 /// global that isn't there.
 const OBJECT_8193: &[Row] = &[
-    Row::Errs(Message(1, 0, &[Arg::NewId(9000)]), 1, 3),
-    Row::Errs(Message(3, 1, &[Arg::NewId(9000)]), 1, 3),
-    Row::Errs(
-        Message(
-            2,
-            0,
-            &[
-                Arg::Uint(9),
-                Arg::Str(b"wl_compositor"),
-                Arg::Uint(2),
-                Arg::NewId(9000),
-            ],
-        ),
-        1,
-        3,
-    ),
+    Row::Errs(Ask::Sync(9000), 1, 3),
+    Row::Errs(Ask::GetKeyboard(3, 9000), 1, 3),
+    Row::Errs(Ask::Bind(2, 9, Interface::Compositor, 2, 9000), 1, 3),
 ];
 
 const REGISTRY_8193: &[Row] = &[
     Row::GetsRegistries(2, 8_193),
     Row::Is(1, Fed::Alive),
-    Row::Errs(Message(1, 1, &[Arg::NewId(8_193)]), 1, 3),
+    Row::Errs(Ask::GetRegistry(8_193), 1, 3),
     Row::ErrorTold(1, 3, b"implementation"),
 ];
 
-/// The client has 8,192 objects: wl_display, the registry 2, the wl_compositor 3, and regions. The next is past the limit.
+/// The client has 8,192 objects: wl_display, the registry 2, the wl_compositor 3, and regions. The
+/// next is past the limit.
 const REGION_8193: &[Row] = &[
-    Row::Sends(Message(1, 1, &[Arg::NewId(2)])),
-    Row::Binds(1, b"wl_compositor", 2, 3, Fed::Alive),
+    Row::Sends(Ask::GetRegistry(2)),
+    Row::Binds(1, Interface::Compositor, 2, 3, Fed::Alive),
     Row::Takes,
     Row::MakesRegions(4, 8_193),
-    Row::Waits(1, Some(&[])),
-    Row::Errs(Message(3, 1, &[Arg::NewId(8_193)]), 1, 3),
+    Row::Silent(1),
+    Row::Errs(Ask::CreateRegion(3, 8_193), 1, 3),
     Row::ErrorTold(1, 3, b"implementation"),
 ];
 
 /// The id of a sync's callback is free again once it was given back.
 const USED_AGAIN: &[Row] = &[
-    Row::Sends(Message(1, 0, &[Arg::NewId(2)])),
-    Row::Sends(Message(1, 1, &[Arg::NewId(2)])),
-    Row::Sends(Message(1, 0, &[Arg::NewId(3)])),
-    Row::Errs(Message(1, 0, &[Arg::NewId(2)]), 1, 0),
+    Row::Sends(Ask::Sync(2)),
+    Row::Sends(Ask::GetRegistry(2)),
+    Row::Sends(Ask::Sync(3)),
+    Row::Errs(Ask::Sync(2), 1, 0),
 ];
 
 /// A client's error ends that client alone: another keeps its objects and its bytes.
 const ANOTHER_ERRS: &[Row] = &[
-    Row::Binds(3, b"wl_shm", 1, 4, Fed::Alive),
+    Row::Binds(3, Interface::Shm, 1, 4, Fed::Alive),
     Row::Calls(Step::Connect, Done::Connect(Ok(2))),
     Row::Calls(
         Step::Feed {
@@ -281,22 +237,9 @@ const ANOTHER_ERRS: &[Row] = &[
     ),
     Row::Is(1, Fed::Alive),
     Row::Waiting(24),
-    Row::Binds(5, b"wl_seat", 1, 5, Fed::Alive),
+    Row::Binds(5, Interface::Seat, 1, 5, Fed::Alive),
     Row::Waiting(36),
-    Row::Errs(
-        Message(
-            2,
-            0,
-            &[
-                Arg::Uint(5),
-                Arg::Str(b"wl_seat"),
-                Arg::Uint(1),
-                Arg::NewId(4),
-            ],
-        ),
-        1,
-        0,
-    ),
+    Row::Errs(Ask::Bind(2, 5, Interface::Seat, 1, 4), 1, 0),
 ];
 
 const CASES: &[Case] = &[
@@ -342,7 +285,8 @@ fn registries_are_as_worked(rt: HostRuntime) {
     assert_eq!(rt; first_missed_case(rt.alloc(), &[CLIENT], CASES), None);
 }
 
-/// Rows that are each played in a session of their own, by the name of the case and after its parts.
+/// Rows that are each played in a session of their own, by the name of the case and after its
+/// parts.
 const ROWS: &[(Case, &[Row])] = &[
     (
         ("only a version of the global is bound", &[REGISTRY]),

@@ -1,4 +1,5 @@
-//! What the tests of the other crates share: an allocator that refuses, and readers and writers over
+//! What the tests of the other crates share: an allocator that refuses, and readers and writers
+//! over
 //! memory that fail or go in small pieces at a chosen call. The product doesn't use it.
 #![tactic(auto)]
 

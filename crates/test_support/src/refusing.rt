@@ -3,7 +3,8 @@ ghost use Rattle.std.specs.Prelude.{◌≡◌, ◌<◌, ◌≤◌, ◌⊎◌, tr
 use std::alloc::{AllocError, Allocator};
 use std::cell::Cell;
 
-/// An allocator that serves a number of allocations by another one, and refuses every one after them, or only the next.
+/// An allocator that serves a number of allocations by another one, and refuses every one after
+/// them, or only the next.
 ///
 /// `&Refusing<B>` is an allocator too, and is copied, so that one heap can be handed to many
 /// collections: `let heap = Refusing::new(rt.alloc(), 3); let list = Vec::new(&heap);`.

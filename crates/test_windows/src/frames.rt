@@ -1,25 +1,24 @@
 //! Frames of windows: what they show, and which points are painted again.
 
 use std::alloc::Global;
+use test_rows::asks::{Ask, Interface, bytes_of};
 use test_rows::begun::{
     ACKNOWLEDGES, ATTACH_NONE, BUFFERS, COMMIT, CONFIGURED, CONFIGURES, GLOBALS, GREEN, MADE, MAPS,
     RED, RED_10, SECOND, missed_after_buffers,
 };
-use test_rows::rows::{
-    Case, Fault, Message, Pixel, REGISTRY, Row, bytes_of, first_missed_case, is_pixel, play_after,
-};
+use test_rows::events::Event;
+use test_rows::rows::{Case, Fault, Pixel, REGISTRY, Row, first_missed_case, is_pixel, play_after};
 use wl_session::{Config, Done, Fed, Rgb, Run, Session, Shot, Step};
-use wl_wire::Arg;
 
-const WHITE: &[u8] = &[255, 255, 255, 0];
+const WHITE: [u8; 4] = [255, 255, 255, 0];
 
-const HALF_RED: &[u8] = &[0, 0, 128, 128];
+const HALF_RED: [u8; 4] = [0, 0, 128, 128];
 
 /// wl_surface.attach of the buffer 11.
-const ATTACH_11: Message = Message(6, 1, &[Arg::Object(11), Arg::Int(0), Arg::Int(0)]);
+const ATTACH_11: Ask = Ask::Attach(6, 11);
 
 /// wl_buffer.release of the buffer 10, which is no longer shown.
-const RELEASED_10: Message = Message(10, 0, &[]);
+const RELEASED_10: Event = Event::Release(10);
 
 /// The window is there: 40 by 40 points at (0, 0), and black around it.
 const SHOWS_RED: &[Row] = &[
@@ -38,8 +37,8 @@ const SHOWS_RED: &[Row] = &[
 
 /// The pool goes, and its store can be written to still: the buffers keep it.
 const WITHOUT_POOL: &[Row] = &[
-    Row::Sends(Message(9, 1, &[])),
-    Row::Told(&[Message(1, 1, &[Arg::Uint(9)])]),
+    Row::Sends(Ask::PoolDestroy(9)),
+    Row::Told(&[Event::DeleteId(9)]),
     Row::Takes,
     Row::Fills(1, 1, 0, 1, RED),
 ];
@@ -54,7 +53,8 @@ const SHOWS_ONE_RED: &[Row] = &[Row::Shows(
     ],
 )];
 
-/// What is written after the commit is seen in the next frame: a buffer isn't copied (wayland.xml, wl_surface.attach).
+/// What is written after the commit is seen in the next frame: a buffer isn't copied (wayland.xml,
+/// wl_surface.attach).
 const WRITTEN_AFTERWARDS: &[Row] = &[
     Row::Fills(1, 1, 0, 1600, GREEN),
     Row::Shows(
@@ -68,85 +68,62 @@ const WRITTEN_AFTERWARDS: &[Row] = &[
 const WRITTEN_LATER: &[Row] = &[
     Row::Fills(1, 1, 0, 1, GREEN),
     Row::Shows(0, 0, &[Pixel(0, 0, 255, 0, 0)]),
-    Row::Sends(Message(6, 2, &[Arg::Int(0), Arg::Int(0), Arg::Int(1), Arg::Int(1)])),
+    Row::Sends(Ask::Damage(6, 0, 0, 1, 1)),
     Row::Sends(COMMIT),
     Row::Shows(1, 1, &[Pixel(0, 0, 0, 255, 0), Pixel(1, 0, 255, 0, 0)]),
 ];
 
 /// wl_surface.damage of one pixel.
-const ONE_PIXEL: Message = Message(6, 2, &[Arg::Int(0), Arg::Int(0), Arg::Int(1), Arg::Int(1)]);
+const ONE_PIXEL: Ask = Ask::Damage(6, 0, 0, 1, 1);
 
 /// 1,024 rectangles count one by one, and one more means the whole surface.
 const MANY_RECTANGLES: &[Row] = &[
     Row::Changes(512, ONE_PIXEL, ONE_PIXEL),
     Row::Sends(COMMIT),
-    Row::Shows(1, 1, &[]),
+    Row::Paints(1, 1),
     Row::Changes(512, ONE_PIXEL, ONE_PIXEL),
     Row::Sends(ONE_PIXEL),
     Row::Sends(COMMIT),
-    Row::Shows(1600, 1600, &[]),
+    Row::Paints(1600, 1600),
     Row::Sends(COMMIT),
-    Row::Shows(0, 0, &[]),
+    Row::Paints(0, 0),
 ];
 
 /// Damage is cut to the surface, however far it reaches.
 const BEYOND_THE_SURFACE: &[Row] = &[
-    Row::Sends(Message(
-        6,
-        2,
-        &[
-            Arg::Int(-2147483648),
-            Arg::Int(0),
-            Arg::Int(2147483647),
-            Arg::Int(2147483647),
-        ],
-    )),
+    Row::Sends(Ask::Damage(6, -2147483648, 0, 2147483647, 2147483647)),
     Row::Sends(COMMIT),
-    Row::Shows(0, 0, &[]),
-    Row::Sends(Message(
-        6,
-        2,
-        &[Arg::Int(0), Arg::Int(0), Arg::Int(2147483647), Arg::Int(1)],
-    )),
+    Row::Paints(0, 0),
+    Row::Sends(Ask::Damage(6, 0, 0, 2147483647, 1)),
     Row::Sends(COMMIT),
-    Row::Shows(40, 40, &[]),
-    Row::Sends(Message(
-        6,
-        2,
-        &[Arg::Int(-5), Arg::Int(38), Arg::Int(10), Arg::Int(10)],
-    )),
+    Row::Paints(40, 40),
+    Row::Sends(Ask::Damage(6, -5, 38, 10, 10)),
     Row::Sends(COMMIT),
-    Row::Shows(10, 10, &[]),
+    Row::Paints(10, 10),
 ];
 
 /// A window that is turned is painted again as a whole.
 const TURNS: &[Row] = &[
-    Row::Sends(Message(6, 7, &[Arg::Int(1)])),
+    Row::Sends(Ask::SetBufferTransform(6, 1)),
     Row::Sends(COMMIT),
-    Row::Shows(1600, 1600, &[]),
+    Row::Paints(1600, 1600),
 ];
 
-/// The client 2 damages two pixels of its window at (32, 32), of which one lies beyond the output, and what a window hides is painted too.
+/// The client 2 damages two pixels of its window at (32, 32), of which one lies beyond the output,
+/// and what a window hides is painted too.
 const MOVED_TO_THE_CORNER: &[Row] = &[
-    Row::From(
-        2,
-        Message(6, 2, &[Arg::Int(31), Arg::Int(3), Arg::Int(2), Arg::Int(1)]),
-    ),
+    Row::From(2, Ask::Damage(6, 31, 3, 2, 1)),
     Row::From(2, COMMIT),
-    Row::Shows(1, 1, &[]),
-    Row::Sends(Message(
-        6,
-        2,
-        &[Arg::Int(31), Arg::Int(33), Arg::Int(3), Arg::Int(3)],
-    )),
+    Row::Paints(1, 1),
+    Row::Sends(Ask::Damage(6, 31, 33, 3, 3)),
     Row::Sends(COMMIT),
-    Row::Shows(9, 9, &[]),
+    Row::Paints(9, 9),
 ];
 
 /// The window moves 3 to the right: what it left is painted again, and where it is now.
 const MOVES: &[Row] = &[
     Row::Fills(1, 1, 6400, 1600, GREEN),
-    Row::Sends(Message(6, 1, &[Arg::Object(11), Arg::Int(3), Arg::Int(0)])),
+    Row::Sends(Ask::AttachAt(6, 11, 3, 0)),
     Row::Sends(COMMIT),
     Row::Told(&[RELEASED_10]),
     Row::Takes,
@@ -171,10 +148,10 @@ const MAPPED_AGAIN: &[Row] = &[
     Row::Takes,
     Row::Shows(1600, 1600, &[Pixel(0, 0, 0, 0, 0), Pixel(39, 39, 0, 0, 0)]),
     Row::Sends(COMMIT),
-    Row::Told(&[CONFIGURED, Message(7, 0, &[Arg::Uint(2)])]),
+    Row::Told(&[CONFIGURED, Event::Configure(7, 2)]),
     Row::Takes,
-    Row::Sends(Message(7, 4, &[Arg::Uint(2)])),
-    Row::Sends(Message(6, 1, &[Arg::Object(10), Arg::Int(0), Arg::Int(0)])),
+    Row::Sends(Ask::AckConfigure(7, 2)),
+    Row::Sends(Ask::Attach(6, 10)),
     Row::Sends(COMMIT),
     Row::Shows(
         1024,
@@ -190,13 +167,13 @@ const MAPPED_AGAIN: &[Row] = &[
 
 /// The toplevel goes, and its window with it.
 const DESTROYED: &[Row] = &[
-    Row::Sends(Message(8, 0, &[])),
+    Row::Sends(Ask::ToplevelDestroy(8)),
     Row::Shows(1600, 1600, &[Pixel(0, 0, 0, 0, 0), Pixel(39, 39, 0, 0, 0)]),
 ];
 
 /// The client ends by an error, and its window goes: its points are painted again, and no more.
 const ENDS: &[Row] = &[
-    Row::Errs(Message(7, 4, &[Arg::Uint(9)]), 7, 4),
+    Row::Errs(Ask::AckConfigure(7, 9), 7, 4),
     Row::Shows(1600, 1600, &[Pixel(0, 0, 0, 0, 0), Pixel(39, 39, 0, 0, 0)]),
 ];
 
@@ -208,19 +185,8 @@ const GOES: &[Row] = &[
 
 /// The buffer 10 stays shown, though its wl_buffer went and another has its id.
 const ID_USED_AGAIN: &[Row] = &[
-    Row::Sends(Message(10, 0, &[])),
-    Row::Sends(Message(
-        9,
-        0,
-        &[
-            Arg::NewId(10),
-            Arg::Int(6400),
-            Arg::Int(40),
-            Arg::Int(40),
-            Arg::Int(160),
-            Arg::Uint(1),
-        ],
-    )),
+    Row::Sends(Ask::BufferDestroy(10)),
+    Row::Sends(Ask::CreateBuffer(9, 10, 6400, 40, 40, 160, 1)),
     Row::Fills(1, 1, 6400, 1600, GREEN),
     Row::Sends(COMMIT),
     Row::Shows(0, 0, &[Pixel(0, 0, 255, 0, 0), Pixel(39, 39, 255, 0, 0)]),
@@ -228,28 +194,11 @@ const ID_USED_AGAIN: &[Row] = &[
 
 /// A buffer 10 of 40 by 40 pixels with alpha, half red, is mapped.
 const SECOND_BUFFER: &[Row] = &[
-    Row::From(
-        2,
-        Message(
-            9,
-            0,
-            &[
-                Arg::NewId(10),
-                Arg::Int(0),
-                Arg::Int(40),
-                Arg::Int(40),
-                Arg::Int(160),
-                Arg::Uint(0),
-            ],
-        ),
-    ),
+    Row::From(2, Ask::CreateBuffer(9, 10, 0, 40, 40, 160, 0)),
     Row::Fills(2, 1, 0, 1600, HALF_RED),
-    Row::From(
-        2,
-        Message(6, 1, &[Arg::Object(10), Arg::Int(0), Arg::Int(0)]),
-    ),
+    Row::From(2, Ask::Attach(6, 10)),
     Row::From(2, COMMIT),
-    Row::Waits(2, Some(&[])),
+    Row::Silent(2),
 ];
 
 /// Half red over white, and over the background; the other window is as it was.
@@ -272,11 +221,7 @@ const SHOWS_WHITE: &[Row] = &[Row::Shows(1600, 1600, &[Pixel(39, 39, 255, 255, 2
 /// The client below commits again: its window is painted below the other.
 const BELOW: &[Row] = &[
     Row::Sends(ATTACH_11),
-    Row::Sends(Message(
-        6,
-        2,
-        &[Arg::Int(0), Arg::Int(0), Arg::Int(40), Arg::Int(40)],
-    )),
+    Row::Sends(Ask::Damage(6, 0, 0, 40, 40)),
     Row::Sends(COMMIT),
     Row::Shows(
         1600,
@@ -300,30 +245,10 @@ pub(crate) const SHOWS_BLACK: &[Row] = &[Row::Shows(1600, 1600, &[Pixel(31, 33, 
 
 /// The client 2 shows a green buffer 10 of 8 by 8 pixels, at (32, 32).
 pub(crate) const GREEN_SQUARE: &[Row] = &[
-    Row::From(
-        2,
-        Message(
-            9,
-            0,
-            &[
-                Arg::NewId(10),
-                Arg::Int(0),
-                Arg::Int(8),
-                Arg::Int(8),
-                Arg::Int(32),
-                Arg::Uint(1),
-            ],
-        ),
-    ),
+    Row::From(2, Ask::CreateBuffer(9, 10, 0, 8, 8, 32, 1)),
     Row::Fills(2, 1, 0, 64, GREEN),
-    Row::From(
-        2,
-        Message(6, 1, &[Arg::Object(10), Arg::Int(0), Arg::Int(0)]),
-    ),
-    Row::From(
-        2,
-        Message(6, 2, &[Arg::Int(0), Arg::Int(0), Arg::Int(8), Arg::Int(8)]),
-    ),
+    Row::From(2, Ask::Attach(6, 10)),
+    Row::From(2, Ask::Damage(6, 0, 0, 8, 8)),
     Row::From(2, COMMIT),
     Row::Shows(
         64,
@@ -332,14 +257,11 @@ pub(crate) const GREEN_SQUARE: &[Row] = &[
     ),
 ];
 
-/// Nine points of the client 1's window change, the left three of them beside the window of the client 2 and the others below it.
+/// Nine points of the client 1's window change, the left three of them beside the window of the
+/// client 2 and the others below it.
 pub(crate) const CHANGES_NINE: &[Row] = &[
     Row::Sends(ATTACH_11),
-    Row::Sends(Message(
-        6,
-        2,
-        &[Arg::Int(31), Arg::Int(33), Arg::Int(3), Arg::Int(3)],
-    )),
+    Row::Sends(Ask::Damage(6, 31, 33, 3, 3)),
     Row::Sends(COMMIT),
     Row::Told(&[RELEASED_10]),
 ];
@@ -360,40 +282,17 @@ pub(crate) const SHOWS_THREE_RED: &[Row] = &[Row::Shows(
     ],
 )];
 
-/// The client 2 shows a buffer 10 of 8 by 8 pixels of argb8888 that lets all through, at (32, 32); then a region that would call all of it opaque
-/// waits for a commit, which doesn't come.
+/// The client 2 shows a buffer 10 of 8 by 8 pixels of argb8888 that lets all through, at (32, 32).
+/// Then a region that would call all of it opaque waits for a commit, which doesn't come.
 const CLEAR_SQUARE: &[Row] = &[
-    Row::From(
-        2,
-        Message(
-            9,
-            0,
-            &[
-                Arg::NewId(10),
-                Arg::Int(0),
-                Arg::Int(8),
-                Arg::Int(8),
-                Arg::Int(32),
-                Arg::Uint(0),
-            ],
-        ),
-    ),
-    Row::From(
-        2,
-        Message(6, 1, &[Arg::Object(10), Arg::Int(0), Arg::Int(0)]),
-    ),
-    Row::From(
-        2,
-        Message(6, 2, &[Arg::Int(0), Arg::Int(0), Arg::Int(8), Arg::Int(8)]),
-    ),
+    Row::From(2, Ask::CreateBuffer(9, 10, 0, 8, 8, 32, 0)),
+    Row::From(2, Ask::Attach(6, 10)),
+    Row::From(2, Ask::Damage(6, 0, 0, 8, 8)),
     Row::From(2, COMMIT),
     Row::Shows(64, 64, &[Pixel(32, 32, 0, 0, 0), Pixel(39, 39, 0, 0, 0)]),
-    Row::From(2, Message(3, 1, &[Arg::NewId(14)])),
-    Row::From(
-        2,
-        Message(14, 1, &[Arg::Int(0), Arg::Int(0), Arg::Int(8), Arg::Int(8)]),
-    ),
-    Row::From(2, Message(6, 4, &[Arg::Object(14)])),
+    Row::From(2, Ask::CreateRegion(3, 14)),
+    Row::From(2, Ask::RegionAdd(14, 0, 0, 8, 8)),
+    Row::From(2, Ask::SetOpaqueRegion(6, 14)),
 ];
 
 /// A window hides nothing by an opaque region that it has asked for and not committed.
@@ -416,9 +315,9 @@ const SHOWS_NINE_RED: &[Row] = &[Row::Shows(
 
 /// The client 1 ends: its window goes, and that of the client 2 stays, which is told nothing.
 const OTHER_STAYS: &[Row] = &[
-    Row::Errs(Message(7, 4, &[Arg::Uint(9)]), 7, 4),
+    Row::Errs(Ask::AckConfigure(7, 9), 7, 4),
     Row::Is(2, Fed::Alive),
-    Row::Waits(2, Some(&[])),
+    Row::Silent(2),
     Row::Shows(
         1600,
         1600,
@@ -430,12 +329,13 @@ const OTHER_STAYS: &[Row] = &[
     ),
 ];
 
-/// A client whose buffer comes before its configure was acknowledged ends; the window of the other stays.
+/// A client whose buffer comes before its configure was acknowledged ends; the window of the other
+/// stays.
 const UNCONFIGURED: &[Row] = &[
-    Row::Sends(Message(6, 1, &[Arg::Object(10), Arg::Int(0), Arg::Int(0)])),
+    Row::Sends(Ask::Attach(6, 10)),
     Row::Errs(COMMIT, 7, 3),
     Row::Is(2, Fed::Alive),
-    Row::Waits(2, Some(&[])),
+    Row::Silent(2),
     Row::Shows(0, 0, &[Pixel(0, 0, 128, 0, 0), Pixel(39, 39, 128, 0, 0)]),
 ];
 
@@ -588,57 +488,19 @@ const SMALL: Config = Config {
 };
 
 /// A client with a window of 2 by 2 points at (0, 0), up to its configure.
-const UP_TO_CONFIGURE: &[Message] = &[
-    Message(1, 1, &[Arg::NewId(2)]),
-    Message(
-        2,
-        0,
-        &[
-            Arg::Uint(1),
-            Arg::Str(b"wl_compositor"),
-            Arg::Uint(2),
-            Arg::NewId(3),
-        ],
-    ),
-    Message(
-        2,
-        0,
-        &[
-            Arg::Uint(3),
-            Arg::Str(b"wl_shm"),
-            Arg::Uint(1),
-            Arg::NewId(4),
-        ],
-    ),
-    Message(
-        2,
-        0,
-        &[
-            Arg::Uint(6),
-            Arg::Str(b"xdg_wm_base"),
-            Arg::Uint(1),
-            Arg::NewId(5),
-        ],
-    ),
-    Message(3, 0, &[Arg::NewId(6)]),
-    Message(5, 2, &[Arg::NewId(7), Arg::Object(6)]),
-    Message(7, 1, &[Arg::NewId(8)]),
+const UP_TO_CONFIGURE: &[Ask] = &[
+    Ask::GetRegistry(2),
+    Ask::Bind(2, 1, Interface::Compositor, 2, 3),
+    Ask::Bind(2, 3, Interface::Shm, 1, 4),
+    Ask::Bind(2, 6, Interface::WmBase, 1, 5),
+    Ask::CreateSurface(3, 6),
+    Ask::GetXdgSurface(5, 7, 6),
+    Ask::GetToplevel(7, 8),
     COMMIT,
-    Message(7, 4, &[Arg::Uint(1)]),
-    Message(4, 0, &[Arg::NewId(9), Arg::Int(16)]),
-    Message(
-        9,
-        0,
-        &[
-            Arg::NewId(10),
-            Arg::Int(0),
-            Arg::Int(2),
-            Arg::Int(2),
-            Arg::Int(8),
-            Arg::Uint(1),
-        ],
-    ),
-    Message(6, 1, &[Arg::Object(10), Arg::Int(0), Arg::Int(0)]),
+    Ask::AckConfigure(7, 1),
+    Ask::CreatePool(4, 9, 16),
+    Ask::CreateBuffer(9, 10, 0, 2, 2, 8, 1),
+    Ask::Attach(6, 10),
     COMMIT,
 ];
 
@@ -653,7 +515,8 @@ fn are_runs(shots: &[Shot<Global>]) -> bool {
     }
 }
 
-/// The first pixel of the window is red, its others black, and the background is around it; the second frame is the same.
+/// The first pixel of the window is red, its others black, and the background is around it; the
+/// second frame is the same.
 fn are_images(shots: &[Shot<Global>]) -> bool {
     let wanted = &[
         Pixel(0, 0, 255, 0, 0),
@@ -678,7 +541,7 @@ fn runs_in(session: &mut Session<Global>, piece: &[u8]) -> bool {
             client: 1,
             store: 1,
             at: 0,
-            bytes: RED,
+            bytes: &RED,
         },
         Step::Tick { time: 5 },
         Step::Tick { time: 6 },

@@ -1,10 +1,12 @@
-//! The pointer over a window (wayland.xml, wl_pointer): what its client is told; and who can't be told that it is entered ends, and its window
+//! The pointer over a window (wayland.xml, wl_pointer): what its client is told; and who can't be
+//! told that it is entered ends, and its window
 //! goes.
 
+use test_rows::asks::Ask;
 use test_rows::begun::{MAPS, RED_10, SEATED, missed_after_buffers};
-use test_rows::rows::{Case, Message, Pixel, Row};
+use test_rows::events::Event;
+use test_rows::rows::{Case, Pixel, Row};
 use wl_session::{Cause, Done, Fed, Step};
-use wl_wire::{Arg, Fixed};
 
 /// The pointer goes to (5, 5), over the window.
 pub(crate) const COMES: Row = Row::Calls(
@@ -17,16 +19,7 @@ pub(crate) const COMES: Row = Row::Calls(
 );
 
 /// The surface 6 is entered there, in 256ths of a pixel.
-pub(crate) const ENTERED: Message = Message(
-    13,
-    0,
-    &[
-        Arg::Uint(2),
-        Arg::Object(6),
-        Arg::Fixed(Fixed(1280)),
-        Arg::Fixed(Fixed(1280)),
-    ],
-);
+pub(crate) const ENTERED: Event = Event::Enter(13, 2, 6, 1280, 1280);
 
 /// It is entered, moved over and left, by `step` too.
 const HOVERED: &[Row] = &[
@@ -41,11 +34,7 @@ const HOVERED: &[Row] = &[
         },
         Done::Motion,
     ),
-    Row::Told(&[Message(
-        13,
-        2,
-        &[Arg::Uint(7), Arg::Fixed(Fixed(1280)), Arg::Fixed(Fixed(0))],
-    )]),
+    Row::Told(&[Event::Motion(13, 7, 1280, 0)]),
     Row::Takes,
     Row::Steps(
         Step::Motion {
@@ -55,7 +44,7 @@ const HOVERED: &[Row] = &[
         },
         Done::Motion,
     ),
-    Row::Told(&[Message(13, 1, &[Arg::Uint(3), Arg::Object(6)])]),
+    Row::Told(&[Event::Leave(13, 3, 6)]),
     Row::Takes,
     Row::Steps(
         Step::Motion {
@@ -65,7 +54,7 @@ const HOVERED: &[Row] = &[
         },
         Done::Motion,
     ),
-    Row::Waits(1, Some(&[])),
+    Row::Silent(1),
     Row::Shows(1600, 1600, &[Pixel(0, 0, 255, 0, 0)]),
     Row::Shows(0, 0, &[Pixel(0, 0, 255, 0, 0)]),
 ];
@@ -73,22 +62,16 @@ const HOVERED: &[Row] = &[
 /// A client without wl_pointer is told nothing, and its next configure has the serial 2.
 const WITHOUT: &[Row] = &[
     COMES,
-    Row::Waits(1, Some(&[])),
-    Row::Sends(Message(8, 9, &[])),
-    Row::Told(&[
-        Message(8, 0, &[Arg::Int(0), Arg::Int(0), Arg::Array(&[4, 0, 0, 0])]),
-        Message(7, 0, &[Arg::Uint(2)]),
-    ]),
+    Row::Silent(1),
+    Row::Sends(Ask::SetMaximized(8)),
+    Row::Told(&[Event::ToplevelConfigure(8, 0, 0), Event::Configure(7, 2)]),
 ];
 
-/// With 1,048,560 bytes that wait there is no room for wl_pointer.enter, of 24. Its window is to be painted over.
+/// With 1,048,560 bytes that wait there is no room for wl_pointer.enter, of 24. Its window is to be
+/// painted over.
 const TOO_SLOW: &[Row] = &[
     Row::Shows(1600, 1600, &[Pixel(0, 0, 255, 0, 0)]),
-    Row::Changes(
-        87_380,
-        Message(3, 1, &[Arg::NewId(16)]),
-        Message(16, 0, &[]),
-    ),
+    Row::Changes(87_380, Ask::CreateRegion(3, 16), Ask::RegionDestroy(16)),
     Row::Waiting(1_048_560),
     COMES,
     Row::Is(1, Fed::Ended(Cause::Slow)),

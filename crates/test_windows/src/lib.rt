@@ -1,4 +1,5 @@
-//! Tests of the windows of a session: what is shown, at which scale, which buffers are released, and what the pointer tells and does.
+//! Tests of the windows of a session: what is shown, at which scale, which buffers are released,
+//! and what the pointer tells and does.
 #![tactic(auto)]
 
 #[cfg(test)]

@@ -1,21 +1,24 @@
 //! Windows far away, and what a client spoils that draws into what it shows.
 
 use crate::frames::{GREEN_SQUARE, NINE_RED, SHOWS_BLACK};
+use test_rows::asks::Ask;
 use test_rows::begun::{COMMIT, MAPS, RED, RED_10, SECOND, missed_after_buffers};
-use test_rows::rows::{Case, Message, Pixel, Row, Span};
-use wl_wire::Arg;
+use test_rows::events::Event;
+use test_rows::rows::{Case, Pixel, Row, Span};
 
-/// wl_surface.attach of the buffer 11 as far to the right as can be said, and of the buffer 10 as far to the left as a place goes.
-const FAR_RIGHT: Message = Message(6, 1, &[Arg::Object(11), Arg::Int(2147483647), Arg::Int(0)]);
+/// wl_surface.attach of the buffer 11 as far to the right as can be said, and of the buffer 10 as
+/// far to the left as a place goes.
+const FAR_RIGHT: Ask = Ask::AttachAt(6, 11, 2147483647, 0);
 
-const FAR_LEFT: Message = Message(6, 1, &[Arg::Object(10), Arg::Int(-16777216), Arg::Int(0)]);
+const FAR_LEFT: Ask = Ask::AttachAt(6, 10, -16777216, 0);
 
-/// An offset is held within 16,777,216: the window is away, and as far to the left again it stands where it was.
+/// An offset is held within 16,777,216: the window is away, and as far to the left again it stands
+/// where it was.
 const HELD_PLACES: &[Row] = &[
     Row::Shows(1600, 1600, &[Pixel(0, 0, 255, 0, 0)]),
     Row::Sends(FAR_RIGHT),
     Row::Sends(COMMIT),
-    Row::Told(&[Message(10, 0, &[])]),
+    Row::Told(&[Event::Release(10)]),
     Row::Takes,
     Row::Shows(
         1600,
@@ -28,7 +31,7 @@ const HELD_PLACES: &[Row] = &[
     ),
     Row::Sends(FAR_LEFT),
     Row::Sends(COMMIT),
-    Row::Told(&[Message(11, 0, &[])]),
+    Row::Told(&[Event::Release(11)]),
     Row::Takes,
     Row::Shows(
         1600,
@@ -42,7 +45,8 @@ const HELD_PLACES: &[Row] = &[
     ),
 ];
 
-/// The client 2 draws into the buffer that its window of 8 by 8 points at (32, 32) shows, and tells of no damage.
+/// The client 2 draws into the buffer that its window of 8 by 8 points at (32, 32) shows, and tells
+/// of no damage.
 const SPOILED: &[Row] = &[Row::Spoils(2, 0, RED, Span { from: 32, past: 40 })];
 
 /// Each begins with a toplevel and its buffers.

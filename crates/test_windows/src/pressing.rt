@@ -1,14 +1,16 @@
-//! Buttons of the pointer over windows (wayland.xml, wl_pointer.button, and xdg-shell.xml, xdg_toplevel.move): what a client is told, which window
+//! Buttons of the pointer over windows (wayland.xml, wl_pointer.button, and xdg-shell.xml,
+//! xdg_toplevel.move): what a client is told, which window
 //! is raised, and how one is moved.
 
 use crate::frames::{CHANGES_NINE, GREEN_SQUARE, NINE_RED, SHOWS_BLACK, SHOWS_THREE_RED};
 use crate::hovering::{COMES, ENTERED};
+use test_rows::asks::Ask;
 use test_rows::begun::{
     ATTACH_NONE, COMMIT, CONFIGURED, GREEN, MAPS, RED_10, SEATED, SECOND, missed_after_buffers,
 };
-use test_rows::rows::{Case, Message, Pixel, Row};
+use test_rows::events::Event;
+use test_rows::rows::{Case, Pixel, Row};
 use wl_session::{Cause, Done, Fed, Step};
-use wl_wire::{Arg, Fixed};
 
 /// The left button is pressed at the time 11, and released at the time 13.
 pub(crate) const PRESS: Step = Step::Button {
@@ -24,17 +26,9 @@ const RELEASE: Step = Step::Button {
 };
 
 /// wl_pointer.button of both, with the serials 3 and 4.
-const PRESSED: Message = Message(
-    13,
-    3,
-    &[Arg::Uint(3), Arg::Uint(11), Arg::Uint(272), Arg::Uint(1)],
-);
+const PRESSED: Event = Event::Button(13, 3, 11, 272, 1);
 
-const RELEASED: Message = Message(
-    13,
-    3,
-    &[Arg::Uint(4), Arg::Uint(13), Arg::Uint(272), Arg::Uint(0)],
-);
+const RELEASED: Event = Event::Button(13, 4, 13, 272, 0);
 
 /// The pointer comes to (5, 5), over the window, and the button is pressed there.
 const HOLDS: &[Row] = &[
@@ -46,7 +40,8 @@ const HOLDS: &[Row] = &[
     Row::Takes,
 ];
 
-/// While it is down the surface keeps the focus, also beside its window. It loses that once the button is up.
+/// While it is down the surface keeps the focus, also beside its window. It loses that once the
+/// button is up.
 const HELD: &[Row] = &[
     Row::Steps(
         Step::Motion {
@@ -56,24 +51,16 @@ const HELD: &[Row] = &[
         },
         Done::Motion,
     ),
-    Row::Told(&[Message(
-        13,
-        2,
-        &[
-            Arg::Uint(12),
-            Arg::Fixed(Fixed(12800)),
-            Arg::Fixed(Fixed(12800)),
-        ],
-    )]),
+    Row::Told(&[Event::Motion(13, 12, 12800, 12800)]),
     Row::Takes,
     Row::Steps(RELEASE, Done::Button),
-    Row::Told(&[RELEASED, Message(13, 1, &[Arg::Uint(5), Arg::Object(6)])]),
+    Row::Told(&[RELEASED, Event::Leave(13, 5, 6)]),
 ];
 
 /// A button that is down can't be pressed, nor can one be released that isn't.
 const IGNORED: &[Row] = &[
     Row::Steps(PRESS, Done::Button),
-    Row::Waits(1, Some(&[])),
+    Row::Silent(1),
     Row::Steps(
         Step::Button {
             time: 12,
@@ -82,18 +69,18 @@ const IGNORED: &[Row] = &[
         },
         Done::Button,
     ),
-    Row::Waits(1, Some(&[])),
+    Row::Silent(1),
     Row::Calls(RELEASE, Done::Button),
     Row::Told(&[RELEASED]),
     Row::Takes,
     Row::Calls(RELEASE, Done::Button),
-    Row::Waits(1, Some(&[])),
+    Row::Silent(1),
 ];
 
 const SHOWS_RED: &[Row] = &[Row::Shows(1600, 1600, &[Pixel(0, 0, 255, 0, 0)])];
 
 /// xdg_toplevel.move of the toplevel 8 with the serial of the press.
-const MOVE: Message = Message(8, 5, &[Arg::Object(12), Arg::Uint(3)]);
+const MOVE: Ask = Ask::Move(8, 12, 3);
 
 /// The pointer goes to (6, 5), one to the right.
 const GOES: Row = Row::Calls(
@@ -106,22 +93,15 @@ const GOES: Row = Row::Calls(
 );
 
 /// wl_pointer.motion there where the window stands at (0, 0).
-const GONE_OVER: Message = Message(
-    13,
-    2,
-    &[
-        Arg::Uint(12),
-        Arg::Fixed(Fixed(1536)),
-        Arg::Fixed(Fixed(1280)),
-    ],
-);
+const GONE_OVER: Event = Event::Motion(13, 12, 1536, 1280);
 
-/// The window goes along with the pointer, which tells nothing, until the button is up; then it stays at (1, 0).
+/// The window goes along with the pointer, which tells nothing, until the button is up; then it
+/// stays at (1, 0).
 const MOVED: &[Row] = &[
     Row::Sends(MOVE),
-    Row::Waits(1, Some(&[])),
+    Row::Silent(1),
     GOES,
-    Row::Waits(1, Some(&[])),
+    Row::Silent(1),
     Row::Shows(
         1640,
         1640,
@@ -144,21 +124,13 @@ const MOVED: &[Row] = &[
         },
         Done::Motion,
     ),
-    Row::Told(&[Message(
-        13,
-        2,
-        &[
-            Arg::Uint(14),
-            Arg::Fixed(Fixed(1792)),
-            Arg::Fixed(Fixed(1280)),
-        ],
-    )]),
+    Row::Told(&[Event::Motion(13, 14, 1792, 1280)]),
     Row::Shows(0, 0, &[Pixel(1, 0, 255, 0, 0)]),
 ];
 
 /// With another serial than that of the press nothing is moved.
 const ANOTHER_SERIAL: &[Row] = &[
-    Row::Sends(Message(8, 5, &[Arg::Object(12), Arg::Uint(2)])),
+    Row::Sends(Ask::Move(8, 12, 2)),
     GOES,
     Row::Told(&[GONE_OVER]),
     Row::Shows(0, 0, &[Pixel(0, 0, 255, 0, 0)]),
@@ -174,13 +146,9 @@ const SECOND_PRESS: &[Row] = &[
         },
         Done::Button,
     ),
-    Row::Told(&[Message(
-        13,
-        3,
-        &[Arg::Uint(4), Arg::Uint(11), Arg::Uint(273), Arg::Uint(1)],
-    )]),
+    Row::Told(&[Event::Button(13, 4, 11, 273, 1)]),
     Row::Takes,
-    Row::Sends(Message(8, 5, &[Arg::Object(12), Arg::Uint(4)])),
+    Row::Sends(Ask::Move(8, 12, 4)),
     GOES,
     Row::Told(&[GONE_OVER]),
 ];
@@ -195,26 +163,24 @@ const TOO_LATE: &[Row] = &[
     Row::Shows(0, 0, &[Pixel(0, 0, 255, 0, 0)]),
 ];
 
-/// A window that is unmapped isn't moved any more. Mapped again it stands at (32, 32), and stays there; the button is still down, and no surface has
+/// A window that is unmapped isn't moved any more. Mapped again it stands at (32, 32), and stays
+/// there; the button is still down, and no surface has
 /// the focus.
 const UNMAPPED: &[Row] = &[
     Row::Sends(MOVE),
     Row::Sends(ATTACH_NONE),
     Row::Sends(COMMIT),
-    Row::Told(&[
-        Message(10, 0, &[]),
-        Message(13, 1, &[Arg::Uint(4), Arg::Object(6)]),
-    ]),
+    Row::Told(&[Event::Release(10), Event::Leave(13, 4, 6)]),
     Row::Takes,
     Row::Sends(COMMIT),
-    Row::Told(&[CONFIGURED, Message(7, 0, &[Arg::Uint(5)])]),
+    Row::Told(&[CONFIGURED, Event::Configure(7, 5)]),
     Row::Takes,
-    Row::Sends(Message(7, 4, &[Arg::Uint(5)])),
+    Row::Sends(Ask::AckConfigure(7, 5)),
 ];
 
 const STAYS: &[Row] = &[
     GOES,
-    Row::Waits(1, Some(&[])),
+    Row::Silent(1),
     Row::Shows(
         2560,
         2560,
@@ -227,19 +193,20 @@ const STAYS: &[Row] = &[
         ],
     ),
     Row::Calls(RELEASE, Done::Button),
-    Row::Waits(1, Some(&[])),
+    Row::Silent(1),
 ];
 
-/// A second window of the client, green, at (32, 32): the surface 14 with its xdg_surface 15 and its toplevel 16.
+/// A second window of the client, green, at (32, 32): the surface 14 with its xdg_surface 15 and
+/// its toplevel 16.
 const SECOND_WINDOW: &[Row] = &[
     Row::Fills(1, 1, 6400, 1600, GREEN),
-    Row::Sends(Message(3, 0, &[Arg::NewId(14)])),
-    Row::Sends(Message(5, 2, &[Arg::NewId(15), Arg::Object(14)])),
-    Row::Sends(Message(15, 1, &[Arg::NewId(16)])),
-    Row::Sends(Message(14, 6, &[])),
-    Row::Sends(Message(15, 4, &[Arg::Uint(2)])),
-    Row::Sends(Message(14, 1, &[Arg::Object(11), Arg::Int(0), Arg::Int(0)])),
-    Row::Sends(Message(14, 6, &[])),
+    Row::Sends(Ask::CreateSurface(3, 14)),
+    Row::Sends(Ask::GetXdgSurface(5, 15, 14)),
+    Row::Sends(Ask::GetToplevel(15, 16)),
+    Row::Sends(Ask::Commit(14)),
+    Row::Sends(Ask::AckConfigure(15, 2)),
+    Row::Sends(Ask::Attach(14, 11)),
+    Row::Sends(Ask::Commit(14)),
     Row::Shows(
         2560,
         2560,
@@ -252,11 +219,7 @@ const SECOND_WINDOW: &[Row] = &[
 /// A press over the lower window puts it on top, and it stays there.
 const RAISED: &[Row] = &[
     Row::Calls(PRESS, Done::Button),
-    Row::Told(&[Message(
-        13,
-        3,
-        &[Arg::Uint(4), Arg::Uint(11), Arg::Uint(272), Arg::Uint(1)],
-    )]),
+    Row::Told(&[Event::Button(13, 4, 11, 272, 1)]),
     Row::Shows(
         64,
         1600,
@@ -272,7 +235,8 @@ const RAISED: &[Row] = &[
     Row::Shows(0, 0, &[Pixel(32, 32, 255, 0, 0)]),
 ];
 
-/// A press over another client's window puts that on top: the nine red points come out from below the green square.
+/// A press over another client's window puts that on top: the nine red points come out from below
+/// the green square.
 const RAISED_ABOVE_ANOTHER: &[Row] = &[
     Row::Calls(
         Step::Motion {
@@ -292,12 +256,8 @@ const RAISED_ABOVE_ANOTHER: &[Row] = &[
         },
         Done::Button,
     ),
-    Row::Told(&[Message(
-        13,
-        3,
-        &[Arg::Uint(3), Arg::Uint(21), Arg::Uint(272), Arg::Uint(1)],
-    )]),
-    Row::Waits(2, Some(&[])),
+    Row::Told(&[Event::Button(13, 3, 21, 272, 1)]),
+    Row::Silent(2),
     Row::Shows(
         64,
         1600,
@@ -311,15 +271,12 @@ const RAISED_ABOVE_ANOTHER: &[Row] = &[
     ),
 ];
 
-/// With 1,048,560 bytes that wait there is no room for wl_pointer.button, of 24. The window is to be painted over.
+/// With 1,048,560 bytes that wait there is no room for wl_pointer.button, of 24. The window is to
+/// be painted over.
 const TOO_SLOW: &[Row] = &[
     COMES,
     Row::Takes,
-    Row::Changes(
-        87_380,
-        Message(3, 1, &[Arg::NewId(16)]),
-        Message(16, 0, &[]),
-    ),
+    Row::Changes(87_380, Ask::CreateRegion(3, 16), Ask::RegionDestroy(16)),
     Row::Waiting(1_048_560),
     Row::Calls(PRESS, Done::Button),
     Row::Is(1, Fed::Ended(Cause::Slow)),

@@ -1,13 +1,14 @@
-//! The windows of the output, read one by one from bottom to top: whose they are, where they stand and how large they are.
+//! The windows of the output, read one by one from bottom to top: whose they are, where they stand
+//! and how large they are.
 
 use crate::frames::GREEN_SQUARE;
 use crate::hovering::COMES;
 use crate::pressing::PRESS;
 use crate::subsurfaces::{COMMIT_14, PLACE_BELOW, SHOWN, SUBSURFACE};
+use test_rows::asks::Ask;
 use test_rows::begun::{ATTACH_NONE, COMMIT, MAPS, SECOND, missed_after_buffers};
-use test_rows::rows::{Case, Message, Row};
+use test_rows::rows::{Case, Row};
 use wl_session::{Done, ShownWindow, Step};
-use wl_wire::Arg;
 
 /// The window of the client 1's toplevel, the first that is mapped.
 const FIRST: ShownWindow = ShownWindow {
@@ -75,7 +76,7 @@ const CHILD_BELOW: &[Row] = &[Row::Stacked(&[CHILD, FIRST])];
 
 /// The subsurface shows no buffer any more, once its parent commits.
 const CHILD_UNMAPS: &[Row] = &[
-    Row::Sends(Message(14, 1, &[Arg::Object(0), Arg::Int(0), Arg::Int(0)])),
+    Row::Sends(Ask::Attach(14, 0)),
     Row::Sends(COMMIT_14),
     Row::Stacked(&[CHILD, FIRST]),
     Row::Sends(COMMIT),

@@ -1,30 +1,33 @@
-//! Surfaces and toplevels: what is told of them, their errors, and how long their buffers keep stores.
+//! Surfaces and toplevels: what is told of them, their errors, and how long their buffers keep
+//! stores.
 
 use std::alloc::Global;
+use test_rows::asks::Ask;
 use test_rows::begun::{
     ACKNOWLEDGES, ATTACH_10, ATTACH_NONE, BUFFER_10, BUFFERS, COMMIT, CONFIGURED, CONFIGURES,
     GLOBALS, MADE, missed_after_map,
 };
-use test_rows::rows::{Case, Fault, Message, REGISTRY, Row, first_missed_case, first_missed_row};
+use test_rows::events::Event;
+use test_rows::rows::{Case, Fault, REGISTRY, Row, first_missed_case, first_missed_row};
 use wl_session::{Done, Fed, Step, Stored};
-use wl_wire::Arg;
 
-/// Another state is asked for: the toplevel is configured again. A serial that doesn't wait can't be acknowledged.
+/// Another state is asked for: the toplevel is configured again. A serial that doesn't wait can't
+/// be acknowledged.
 const MAXIMIZES: &[Row] = &[
-    Row::Sends(Message(8, 9, &[])),
-    Row::Told(&[CONFIGURED, Message(7, 0, &[Arg::Uint(2)])]),
+    Row::Sends(Ask::SetMaximized(8)),
+    Row::Told(&[CONFIGURED, Event::Configure(7, 2)]),
     Row::Takes,
-    Row::Errs(Message(7, 4, &[Arg::Uint(3)]), 7, 4),
+    Row::Errs(Ask::AckConfigure(7, 3), 7, 4),
     Row::ErrorTold(7, 4, b"invalid_serial"),
 ];
 
 /// Neither minimizing nor a title, a size or a pong has an effect.
 const WITHOUT_EFFECT: &[Row] = &[
-    Row::Sends(Message(8, 13, &[])),
-    Row::Sends(Message(8, 2, &[Arg::Str(b"title")])),
-    Row::Sends(Message(8, 7, &[Arg::Int(1), Arg::Int(1)])),
-    Row::Sends(Message(5, 3, &[Arg::Uint(7)])),
-    Row::Waits(1, Some(&[])),
+    Row::Sends(Ask::SetMinimized(8)),
+    Row::Sends(Ask::SetTitle(8)),
+    Row::Sends(Ask::SetMaxSize(8, 1, 1)),
+    Row::Sends(Ask::Pong(5, 7)),
+    Row::Silent(1),
 ];
 
 /// A buffer before the configure was acknowledged.
@@ -36,45 +39,46 @@ const UNCONFIGURED: &[Row] = &[
 
 /// 64 configures wait to be acknowledged; the next is past the limit.
 const CONFIGURE_65: &[Row] = &[
-    Row::Changes(32, Message(8, 9, &[]), Message(8, 10, &[])),
+    Row::Changes(32, Ask::SetMaximized(8), Ask::UnsetMaximized(8)),
     Row::Takes,
-    Row::Errs(Message(8, 9, &[]), 1, 3),
+    Row::Errs(Ask::SetMaximized(8), 1, 3),
     Row::ErrorTold(1, 3, b"implementation"),
 ];
 
-/// A mapped toplevel is configured by each request to be maximized, with the serials 2 to 65; the next is past the limit.
+/// A mapped toplevel is configured by each request to be maximized, with the serials 2 to 65; the
+/// next is past the limit.
 const MAXIMIZED_65: &[Row] = &[
     Row::Maximizes(2, 66),
-    Row::Errs(Message(8, 9, &[]), 1, 3),
+    Row::Errs(Ask::SetMaximized(8), 1, 3),
     Row::ErrorTold(1, 3, b"implementation"),
 ];
 
 /// A client has at most 256 surfaces.
 const SURFACE_257: &[Row] = &[
     Row::MakesSurfaces(10, 266),
-    Row::Errs(Message(3, 0, &[Arg::NewId(266)]), 1, 3),
+    Row::Errs(Ask::CreateSurface(3, 266), 1, 3),
     Row::ErrorTold(1, 3, b"implementation"),
 ];
 
 /// Objects go in this order, and each gives its id back.
 const GOES: &[Row] = &[
-    Row::Sends(Message(8, 0, &[])),
-    Row::Sends(Message(7, 0, &[])),
-    Row::Sends(Message(6, 0, &[])),
-    Row::Sends(Message(5, 0, &[])),
+    Row::Sends(Ask::ToplevelDestroy(8)),
+    Row::Sends(Ask::XdgSurfaceDestroy(7)),
+    Row::Sends(Ask::SurfaceDestroy(6)),
+    Row::Sends(Ask::WmBaseDestroy(5)),
     Row::Told(&[
-        Message(1, 1, &[Arg::Uint(8)]),
-        Message(1, 1, &[Arg::Uint(7)]),
-        Message(1, 1, &[Arg::Uint(6)]),
-        Message(1, 1, &[Arg::Uint(5)]),
+        Event::DeleteId(8),
+        Event::DeleteId(7),
+        Event::DeleteId(6),
+        Event::DeleteId(5),
     ]),
 ];
 
 /// The pool 9 and the wl_buffers 10 and 11 go.
 const WITHOUT_BUFFERS: &[Row] = &[
-    Row::Sends(Message(9, 1, &[])),
-    Row::Sends(Message(10, 0, &[])),
-    Row::Sends(Message(11, 0, &[])),
+    Row::Sends(Ask::PoolDestroy(9)),
+    Row::Sends(Ask::BufferDestroy(10)),
+    Row::Sends(Ask::BufferDestroy(11)),
     Row::Takes,
 ];
 
@@ -112,9 +116,10 @@ const STORE_STAYS_WHILE_PENDING: &[Row] = &[
     Row::Store(1, 1, None),
 ];
 
-/// The buffer stays the surface's though its wl_buffer went and another has the id: with that one attached the first store goes.
+/// The buffer stays the surface's though its wl_buffer went and another has the id: with that one
+/// attached the first store goes.
 const ID_USED_AGAIN: &[Row] = &[
-    Row::Sends(Message(4, 0, &[Arg::NewId(9), Arg::Int(6400)])),
+    Row::Sends(Ask::CreatePool(4, 9, 6400)),
     Row::Sends(BUFFER_10),
     Row::Store(1, 1, Some(12800)),
     Row::Store(1, 2, Some(6400)),
@@ -127,10 +132,10 @@ const ID_USED_AGAIN: &[Row] = &[
 
 /// A surface that goes lets its buffers' stores go.
 const STORE_GOES_WITH_ITS_SURFACE: &[Row] = &[
-    Row::Sends(Message(8, 0, &[])),
-    Row::Sends(Message(7, 0, &[])),
+    Row::Sends(Ask::ToplevelDestroy(8)),
+    Row::Sends(Ask::XdgSurfaceDestroy(7)),
     Row::Store(1, 1, Some(12800)),
-    Row::Sends(Message(6, 0, &[])),
+    Row::Sends(Ask::SurfaceDestroy(6)),
     Row::Store(1, 1, None),
 ];
 
@@ -164,7 +169,8 @@ const ACKNOWLEDGED_CASES: &[Case] = &[
 
 const ACKNOWLEDGED: &[&[Row]] = &[REGISTRY, GLOBALS, MADE, CONFIGURES, ACKNOWLEDGES];
 
-/// The first of the cases that isn't as wanted after the toplevel's configure was acknowledged, and what wasn't.
+/// The first of the cases that isn't as wanted after the toplevel's configure was acknowledged, and
+/// what wasn't.
 fn missed_after_acknowledgement(alloc: Global, cases: &[Case]) -> Option<(usize, Fault)> {
     first_missed_case(alloc, ACKNOWLEDGED, cases)
 }
@@ -207,24 +213,21 @@ fn toplevels_are_as_worked(rt: HostRuntime) {
 
 /// Each is an error of its own, of a toplevel whose configure was acknowledged.
 const ERRORS: &[Row] = &[
-    Row::Errs(Message(6, 0, &[]), 6, 4),
-    Row::Errs(Message(7, 0, &[]), 7, 6),
-    Row::Errs(Message(5, 0, &[]), 5, 1),
-    Row::Errs(Message(6, 7, &[Arg::Int(8)]), 6, 1),
-    Row::Errs(Message(6, 7, &[Arg::Int(-1)]), 6, 1),
-    Row::Errs(Message(7, 1, &[Arg::NewId(20)]), 7, 2),
-    Row::Errs(
-        Message(7, 3, &[Arg::Int(0), Arg::Int(0), Arg::Int(0), Arg::Int(1)]),
-        7,
-        5,
-    ),
-    Row::Errs(Message(7, 4, &[Arg::Uint(1)]), 7, 4),
-    Row::Errs(Message(5, 2, &[Arg::NewId(20), Arg::Object(6)]), 5, 0),
+    Row::Errs(Ask::SurfaceDestroy(6), 6, 4),
+    Row::Errs(Ask::XdgSurfaceDestroy(7), 7, 6),
+    Row::Errs(Ask::WmBaseDestroy(5), 5, 1),
+    Row::Errs(Ask::SetBufferTransform(6, 8), 6, 1),
+    Row::Errs(Ask::SetBufferTransform(6, -1), 6, 1),
+    Row::Errs(Ask::GetToplevel(7, 20), 7, 2),
+    Row::Errs(Ask::SetWindowGeometry(7, 0, 0, 0, 1), 7, 5),
+    Row::Errs(Ask::AckConfigure(7, 1), 7, 4),
+    Row::Errs(Ask::GetXdgSurface(5, 20, 6), 5, 0),
     // the id of a frame callback is in use
-    Row::Errs(Message(6, 3, &[Arg::NewId(6)]), 1, 0),
+    Row::Errs(Ask::Frame(6, 6), 1, 0),
 ];
 
-/// The first of the rows that isn't as wanted, each after the toplevel's configure was acknowledged, and what wasn't.
+/// The first of the rows that isn't as wanted, each after the toplevel's configure was
+/// acknowledged, and what wasn't.
 fn missed_row(alloc: Global, rows: &[Row]) -> Option<(usize, Fault)> {
     first_missed_row(alloc, ACKNOWLEDGED, rows)
 }
@@ -236,21 +239,22 @@ fn requests_of_toplevels_are_refused(rt: HostRuntime) {
 
 /// An xdg_surface without a role object, and a surface that has a buffer.
 const BARE_ERRORS: &[Row] = &[
-    Row::Errs(Message(7, 4, &[Arg::Uint(1)]), 7, 1),
+    Row::Errs(Ask::AckConfigure(7, 1), 7, 1),
     Row::Errs(COMMIT, 7, 3),
-    Row::Errs(Message(5, 2, &[Arg::NewId(20), Arg::Object(12)]), 5, 4),
+    Row::Errs(Ask::GetXdgSurface(5, 20, 12), 5, 4),
 ];
 
 /// The surface 6 with its xdg_surface 7, and the surface 12 with a buffer.
 const BARE: &[Row] = &[
-    Row::Sends(Message(3, 0, &[Arg::NewId(6)])),
-    Row::Sends(Message(5, 2, &[Arg::NewId(7), Arg::Object(6)])),
+    Row::Sends(Ask::CreateSurface(3, 6)),
+    Row::Sends(Ask::GetXdgSurface(5, 7, 6)),
     Row::Sends(ATTACH_10),
-    Row::Sends(Message(3, 0, &[Arg::NewId(12)])),
-    Row::Sends(Message(12, 1, &[Arg::Object(11), Arg::Int(0), Arg::Int(0)])),
+    Row::Sends(Ask::CreateSurface(3, 12)),
+    Row::Sends(Ask::Attach(12, 11)),
 ];
 
-/// The first of the rows that isn't as wanted, each after these surfaces were made, and what wasn't.
+/// The first of the rows that isn't as wanted, each after these surfaces were made, and what
+/// wasn't.
 fn missed_row_of_bare(alloc: Global, rows: &[Row]) -> Option<(usize, Fault)> {
     first_missed_row(alloc, &[REGISTRY, GLOBALS, BUFFERS, BARE], rows)
 }
