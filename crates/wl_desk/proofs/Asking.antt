@@ -19,10 +19,10 @@ use Rattle.spec_desktop.specs.Desktop.{Desktop, Resident, become_by, client_at, 
 use Rattle.spec_desktop.specs.Happens.{AnswersThen, BecomesThen, ServesThen, TakesThen}
 use Rattle.spec_desktop.specs.Moments.{marks_at_least_through, marks_at_most_through}
 use Rattle.spec_desktop.specs.Marks.{AreDistinct}
-use Rattle.spec_desktop.specs.Settling.{Midstep, Strike, Tells, TellsAt, TellsUnless, becomes, ended_by, struck_by, unstruck}
+use Rattle.spec_desktop.specs.Settling.{Midstep, Tells, TellsAt, TellsUnless, becomes, ended_all, unstruck}
 use Rattle.spec_desktop.specs.Stacked.{all_windows}
 use Rattle.spec_desktop.specs.Step.{with_peer}
-use Rattle.spec_desktop.specs.Through.{ServesThrough, SettlesAllThrough, settling_through}
+use Rattle.spec_desktop.specs.Through.{ServesThrough, SettlesAllThrough, ends_through, settling_through}
 use Rattle.law_desktop.proofs.Runs.Places.{status-become}
 use Rattle.law_desktop.specs.Pointed.Apart.{SettlesOn}
 use Rattle.law_desktop.specs.Pointed.Entering.{TellsNew, new_entered}
@@ -96,25 +96,17 @@ tells-ended change events c x ended = at (client_at c x) ended
     at None e = refl
     at (Some r) e = unless r (is_some r.peer.status) e
 
--- nobody is to end, or one client is
-abbrev pub IsToEnd : ℕ → List Strike → Type 0
-IsToEnd c ss = (ss ≡ []) ⊎ ((s : Strike) × (s.client ≡ c) × (ss ≡ s ∷ []))
-
--- who is told leaves the pointer as it is, and nobody else is to end
+-- who is told leaves the pointer as it is
 pub told-still : (change : Resident → Resident) (events : Resident → List Said) (c : ℕ) (x : Desktop) (n : Midstep) → Tells change events c (unstruck x) n
-    → (n.desktop.pointer ≡ x.pointer) × IsToEnd c n.struck
+    → n.desktop.pointer ≡ x.pointer
 told-still change events c x n h = at (client_at c x) h
   where
-    by : (why : Option Cause) → IsToEnd c (struck_by c why [])
-    by None = inl refl
-    by (Some cause) = inr (record { client = c; cause = cause }, refl, refl)
+    unless : (r : Resident) (b : Bool) → TellsUnless b change events c r (unstruck x) n → n.desktop.pointer ≡ x.pointer
+    unless r true h = ap (λ (m : Midstep). m.desktop.pointer) h
+    unless r false h = ap (λ (m : Midstep). m.desktop.pointer) h.3
 
-    unless : (r : Resident) (b : Bool) → TellsUnless b change events c r (unstruck x) n → (n.desktop.pointer ≡ x.pointer) × IsToEnd c n.struck
-    unless r true h = (ap (λ (m : Midstep). m.desktop.pointer) h, inl (ap (λ (m : Midstep). m.struck) h))
-    unless r false h = (ap (λ (m : Midstep). m.desktop.pointer) h.3, subst (λ (ss : List Strike). IsToEnd c ss) (sym (ap (λ (m : Midstep). m.struck) h.3)) (by h.1))
-
-    at : (o : Option Resident) → TellsAt change events c o (unstruck x) n → (n.desktop.pointer ≡ x.pointer) × IsToEnd c n.struck
-    at None h = (ap (λ (m : Midstep). m.desktop.pointer) h, inl (ap (λ (m : Midstep). m.struck) h))
+    at : (o : Option Resident) → TellsAt change events c o (unstruck x) n → n.desktop.pointer ≡ x.pointer
+    at None h = ap (λ (m : Midstep). m.desktop.pointer) h
     at (Some r) h = unless r (is_some r.peer.status || false) h
 
 -- ---- the pointer is put back, and nobody is told
@@ -141,24 +133,10 @@ on-ended c d path e moved h ended = at (has_focus c d.pointer.focus) refl (asks-
 module _ (c id version : ℕ) (d : Desktop) (path : List Desktop) (e : Desktop) (n : Midstep) (moved : MovedStands d)
     (asks : asked c d ≡ Some (GetPointer id version)) (has : has_focus c d.pointer.focus ≡ true) (leads : ServesThrough c (unpointed d) path e)
     (tells : TellsNew id c (put_back c d e) n) where
-  midstep : List Strike → Midstep
-  midstep ss = record { desktop = n.desktop; struck = ss }
-
-  on-told : (way : List Desktop) (new : Desktop) (ss : List Strike) → n.struck ≡ ss → settling_through way new (midstep ss) → ServesThrough c d way new
-  unfolding midstep
-  on-told way new ss is k =
-      (new-pointer-apart-through c id version d path e n moved asks has leads tells).1 way new (subst (λ (ss : List Strike). settling_through way new (midstep ss)) (sym is) k)
-
-  -- and lives on
-  pub on-queued : n.struck ≡ [] → (later : List Desktop) (new : Desktop) → SettlesAllThrough 33 (unstruck n.desktop) later new → ServesThrough c d ((n.desktop ∷ []) ++ later) new
-  unfolding midstep
-  on-queued none later new k = on-told (n.desktop ∷ later) new [] none (later, refl, k)
-
-  -- or ends, since that wasn't queued
-  pub on-refused : (s : Strike) → n.struck ≡ s ∷ [] → (later : List Desktop) (new : Desktop) → SettlesAllThrough 33 (unstruck (ended_by s n.desktop)) later new
-      → ServesThrough c d ((n.desktop ∷ ended_by s n.desktop ∷ []) ++ later) new
-  unfolding midstep
-  on-refused s one later new k = on-told (n.desktop ∷ ended_by s n.desktop ∷ later) new (s ∷ []) one (later, refl, k)
+  pub on-new : (later : List Desktop) (new : Desktop) → SettlesAllThrough 33 (unstruck (ended_all n.struck n.desktop)) later new
+      → ServesThrough c d ((n.desktop ∷ []) ++ (ends_through n.struck n.desktop ++ later)) new
+  on-new later new k =
+      (new-pointer-apart-through c id version d path e n moved asks has leads tells).1 (n.desktop ∷ (ends_through n.struck n.desktop ++ later)) new (later, refl, k)
 
   -- what it is told marks nothing
   pub told-marks : AreDistinct (all_windows e) → MarksSame d (n.desktop ∷ []) (unpointed d) path

@@ -1,5 +1,5 @@
 -- What the calls of a desk come to, by what is kept of the clients, of the wl_pointers, and of the pointer.
-use Rattle.std.proofs.Common.{◌≡◌, ◌≢◌, ℕ, List, true, refl, ap, ap₂, subst, sym, ◌∙◌, inl, inr}
+use Rattle.std.proofs.Common.{◌≡◌, ◌≢◌, ℕ, List, true, false, refl, ap, ap₂, subst, sym, ◌∙◌, inl, inr}
 use Rattle.wl_paint.specs.Damage.{Damaged}
 use Rattle.std.specs.Prelude.{Result, Ok, Err}
 use Rattle.wl_scene.specs.Marking.{IsAsLarge}
@@ -19,7 +19,7 @@ use Rattle.wl_clients.specs.View.{MarkedDesk as KeptDesk}
 use Rattle.wl_clients.specs.declared.grabs.Latest.{Latest}
 use Rattle.wl_desk.specs.Agreeing.{Agrees, LeadsBy, LeadsQuietly, MarksNothing}
 use Rattle.wl_desk.specs.View.{DeskView, MarkedDesk}
-use Rattle.wl_desk.specs.Ways.{SettlesFrom}
+use Rattle.wl_desk.specs.Ways.{EndsAllFrom, SettlesFrom}
 use Rattle.wl_desk.proofs.Coming.{HasCome, connects-lead}
 use Rattle.wl_desk.proofs.Ending.{ends-lead}
 use Rattle.wl_desk.proofs.Frames.{frames-lead}
@@ -28,7 +28,7 @@ use Rattle.wl_desk.proofs.Quiet.{quiet-leads}
 use Rattle.wl_desk.proofs.SeatsStay.{KeepsSeats, seats-stay}
 
 abbrev pub desk_with : KeptDesk → List (List ℕ) → List Latest → Pointer → MarkedDesk
-desk_with k seats latest p = record { desk = record { kept = k.desk; seats = seats; latest = latest; pointer = p }; damage = k.damage }
+desk_with k seats latest p = record { desk = record { kept = k.desk; seats = seats; latest = latest; pointer = p }; damage = k.damage; settled = false }
 
 pub large-on : (a b c : Damaged) → IsAsLarge a b → IsAsLarge b c → IsAsLarge a c
 large-on a b c first second = record { width = second.width ∙ first.width; height = second.height ∙ first.height }
@@ -70,10 +70,10 @@ connects c old after seats latest p new leads kept damage pointer comes =
     (λ k e. subst (λ (n : ℕ). HasCome n seats new.desk.seats latest new.desk.latest) (number c k e) comes)
     (λ why e. absurd (never c why e)))
   where
-    same : new ≡ desk_with after new.desk.seats new.desk.latest p
+    same : new ≡ record (desk_with after new.desk.seats new.desk.latest p) { settled = new.settled }
     same =
-        ap (λ (k : KeptDesk). desk_with k new.desk.seats new.desk.latest new.desk.pointer) (ap₂ (λ v w. record { desk = v; damage = w }) kept damage)
-        ∙ ap (λ (q : Pointer). desk_with after new.desk.seats new.desk.latest q) pointer
+        ap (λ (k : KeptDesk). record (desk_with k new.desk.seats new.desk.latest new.desk.pointer) { settled = new.settled }) (ap₂ (λ v w. record { desk = v; damage = w }) kept damage)
+        ∙ ap (λ (q : Pointer). record (desk_with after new.desk.seats new.desk.latest q) { settled = new.settled }) pointer
 
     number : (i j : ℕ) → came i ≡ came j → i ≡ j
     number i j e = cc
@@ -97,25 +97,25 @@ pub starves : (c : ℕ) (old after : KeptDesk) (seats : List (List ℕ)) (latest
     → IsAsLarge old.damage after.damage → q ≡ pointer_without c p → SettlesFrom (desk_with after seats latest q) new
     → (d : Desktop) → Agrees (desk_with old seats latest p).desk d → status_of (peer_at c d) ≡ Alive → Led (Agrees new.desk) (Starve c) old.damage new.damage d
 starves c old after seats latest p q new leads large left settles d a alive =
-    ends-lead c (Starve c) d (desk_with old seats latest p) (desk_with after seats latest q) new (inl refl) a (leads (unpointed d) a.kept alive) large refl refl left settles
+    ends-lead c (Starve c) d (desk_with old seats latest p) (desk_with after seats latest q) new (inl refl) a (leads (unpointed d) a.kept alive) large refl refl left refl settles
 
 pub goes : (c : ℕ) (old after : KeptDesk) (seats : List (List ℕ)) (latest : List Latest) (p q : Pointer) (new : MarkedDesk) → KeptLeadsBy (Single (Leave c) (gave.Gone true)) old after
     → IsAsLarge old.damage after.damage → q ≡ pointer_without c p → SettlesFrom (desk_with after seats latest q) new
     → LeadsBy (Single (Leave c) (gave.Gone true)) (desk_with old seats latest p) new
 goes c old after seats latest p q new leads large left settles d a =
-    ends-lead c (Single (Leave c) (gave.Gone true)) d (desk_with old seats latest p) (desk_with after seats latest q) new (inr refl) a (leads (unpointed d) a.kept) large refl refl left settles
+    ends-lead c (Single (Leave c) (gave.Gone true)) d (desk_with old seats latest p) (desk_with after seats latest q) new (inr refl) a (leads (unpointed d) a.kept) large refl refl left refl settles
 
 -- ---- a frame
 
-pub frames : (time : ℕ) (old after : KeptDesk) (seats : List (List ℕ)) (latest : List Latest) (p : Pointer) (mid new : MarkedDesk) → KeptLeadsQuietly (Single (Tick time) gave.Tick) old after
+pub frames : (time : ℕ) (old after : KeptDesk) (seats : List (List ℕ)) (latest : List Latest) (p : Pointer) (mid ended new : MarkedDesk) → KeptLeadsQuietly (Single (Tick time) gave.Tick) old after
     → IsAsLarge old.damage after.damage → mid.desk.kept ≡ after.desk → mid.desk.seats ≡ seats → mid.desk.latest ≡ latest → mid.damage ≡ after.damage
-    → ((was : DeskView) (d e : Desktop) → Agrees was d → p ≡ d.pointer → KeptAgrees after.desk e → mid.desk.pointer ≡ pointer_left d e)
-    → SettlesFrom mid new → LeadsQuietly (Single (Tick time) gave.Tick) (desk_with old seats latest p) new
-frames time old after seats latest p mid new leads large kept same keeps damage left settles d a =
+    → ((was : DeskView) (d e : Desktop) → Agrees was d → p ≡ d.pointer → KeptAgrees after.desk e → mid.desk.pointer ≡ pointer_left d e) → mid.settled ≡ false
+    → EndsAllFrom mid ended → SettlesFrom ended new → LeadsQuietly (Single (Tick time) gave.Tick) (desk_with old seats latest p) new
+frames time old after seats latest p mid ended new leads large kept same keeps damage left unknown ends settles d a =
     let led = leads (unpointed d) a.kept in
-    let parts : mid ≡ desk_with after seats latest mid.desk.pointer =
-    ap₂ (λ (k : KeptDesk) (s : List (List ℕ)). desk_with k s mid.desk.latest mid.desk.pointer) (ap₂ (λ v w. record { desk = v; damage = w }) kept damage) same
-    ∙ ap (λ (l : List Latest). desk_with after seats l mid.desk.pointer) keeps in
-    frames-lead time d (desk_with old seats latest p) (desk_with after seats latest mid.desk.pointer) new a led.0 led.1 large refl refl
-    (left (desk_with old seats latest p).desk d led.0.desktop a a.pointer led.0.agrees)
-    (subst (λ (m : MarkedDesk). SettlesFrom m new) parts settles)
+    let parts : mid ≡ record (desk_with after seats latest mid.desk.pointer) { settled = mid.settled } =
+    ap₂ (λ (k : KeptDesk) (s : List (List ℕ)). record (desk_with k s mid.desk.latest mid.desk.pointer) { settled = mid.settled }) (ap₂ (λ v w. record { desk = v; damage = w }) kept damage) same
+    ∙ ap (λ (l : List Latest). record (desk_with after seats l mid.desk.pointer) { settled = mid.settled }) keeps in
+    frames-lead time d (desk_with old seats latest p) (record (desk_with after seats latest mid.desk.pointer) { settled = mid.settled }) ended new a led.0 led.1 large refl refl
+    (left (desk_with old seats latest p).desk d led.0.desktop a a.pointer led.0.agrees) unknown
+    (subst (λ (m : MarkedDesk). EndsAllFrom m ended) parts ends) settles

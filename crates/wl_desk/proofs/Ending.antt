@@ -1,5 +1,6 @@
 -- The middle of a step where clients ended: the pointer leaves them, and the focus is settled.
-use Rattle.std.proofs.Common.{◌≡◌, ℕ, List, ap, subst, sym, ◌∙◌}
+use Rattle.std.proofs.Common.{◌≡◌, ℕ, List, false, ap, subst, sym, ◌∙◌}
+use Rattle.std.proofs.lemmas.Bool.{true≢false}
 use Rattle.spec_desktop.specs.Pointer.{Pointer}
 use Rattle.spec_desktop.specs.Desktop.{Desktop, unpointed}
 use Rattle.spec_desktop.specs.Happenings.{Happening}
@@ -13,7 +14,7 @@ use Rattle.wl_clients.specs.Leading.{Led, raised_by}
 use Rattle.wl_clients.specs.declared.grabs.Latest.{Latest}
 use Rattle.wl_clients.proofs.Midway.{mid_begins_and_ends}
 use Rattle.wl_desk.specs.Agreeing.{Agrees, AreLatest, AreSeats, IsPlaced}
-use Rattle.wl_desk.specs.Midway.{IsMidway, SettlesDown}
+use Rattle.wl_desk.specs.Midway.{IsAmid, IsMidway, SettlesDown}
 use Rattle.wl_desk.specs.View.{DeskView, MarkedDesk}
 use Rattle.wl_desk.proofs.LatestStay.{end-keeps, latest-stay}
 use Rattle.wl_desk.proofs.Leading.{kept-aside, leads-on}
@@ -43,8 +44,8 @@ begins v p e kept same placed seats latest = record {
 pub ends-lead : (c : ℕ) (h : Happening) (d : Desktop) (old mid new : MarkedDesk) → IsEndOf c h → Agrees old.desk d
     → (led : Led (KeptAgrees mid.desk.kept) h old.damage mid.damage (unpointed d)) → IsAsLarge old.damage mid.damage
     → mid.desk.seats ≡ old.desk.seats → mid.desk.latest ≡ old.desk.latest → mid.desk.pointer ≡ pointer_without c old.desk.pointer
-    → ((m : Midstep) → IsMidway mid.desk m → SettlesDown mid new m) → Led (Agrees new.desk) h old.damage new.damage d
-ends-lead c h d old mid new end a led large seats latest pointer settles =
+    → mid.settled ≡ false → ((m : Midstep) → IsAmid mid m → SettlesDown mid new m) → Led (Agrees new.desk) h old.damage new.damage d
+ends-lead c h d old mid new end a led large seats latest pointer unknown settles =
     let p : Pointer = pointer_without c d.pointer in
     let start : Midstep = unstruck (pointed p led.desktop) in
     let midway : IsMidway mid.desk start =
@@ -52,4 +53,4 @@ ends-lead c h d old mid new end a led large seats latest pointer settles =
     (subst (λ (s : List (List ℕ)). AreSeats s led.desktop) (sym seats) (seats-stay old.desk.seats h d led.path led.desktop (end-keeps-seats c h end) a.seats led.leads))
     (subst (λ (l : List Latest). AreLatest l (unstruck led.desktop)) (sym latest) (latest-stay old.desk.latest h d led.path led.desktop (end-keeps c h end) a.latest led.leads)) in
     leads-on h (λ e. p) d led.path led.desktop old.damage mid new (ends-apart c h d led.path led.desktop end led.leads) large
-    (marks-unraised (raised_by h (unpointed d)) (unpointed d) led.path old.damage mid.damage (end-unraised c h (unpointed d) end) led.marks) midway (settles start midway) (end-unraised c h d end)
+    (marks-unraised (raised_by h (unpointed d)) (unpointed d) led.path old.damage mid.damage (end-unraised c h (unpointed d) end) led.marks) midway (settles start (record { midway = midway; known = λ yes. absurd (true≢false (sym yes ∙ unknown)) })) (end-unraised c h d end)

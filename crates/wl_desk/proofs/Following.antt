@@ -14,7 +14,7 @@ use Rattle.spec_desktop.specs.Happenings.{Leads, Message}
 use Rattle.spec_desktop.specs.Marks.{AreDistinct}
 use Rattle.spec_desktop.specs.Moments.{marks_at_least_through, marks_at_most_through}
 use Rattle.spec_desktop.specs.Replies.{entered_at, focus_window}
-use Rattle.spec_desktop.specs.Settling.{Midstep, Strike, Tells, ended_by, unstruck}
+use Rattle.spec_desktop.specs.Settling.{Midstep, Tells, unstruck}
 use Rattle.spec_desktop.specs.Stacked.{all_windows}
 use Rattle.spec_desktop.specs.Through.{ServesThrough}
 use Rattle.law_desktop.specs.Focus.{IsSettled}
@@ -35,14 +35,14 @@ use Rattle.wl_clients.specs.View.{DeskView as ClientsView}
 use Rattle.wl_clients.proofs.Agreed.{agrees-apart}
 use Rattle.wl_clients.proofs.Midway.{mid_begins_and_ends}
 use Rattle.wl_desk.specs.Agreeing.{AreLatest, AreSeats, IsPlaced}
-use Rattle.wl_desk.specs.Following.{IsUnsettled, Took}
+use Rattle.wl_desk.specs.Following.{IsFollowed, Took}
 use Rattle.wl_desk.specs.Midway.{IsMidway, IsTelling}
 use Rattle.wl_desk.specs.View.{DeskView, MarkedDesk}
-use Rattle.wl_desk.proofs.Asking.{on-queued, on-refused, refused-ends, told-marks, told-still}
+use Rattle.wl_desk.proofs.Asking.{on-new, refused-ends, told-marks, told-still}
 use Rattle.wl_desk.proofs.Begun.{after-get, after-settled, back-placed}
 use Rattle.wl_desk.proofs.Focused.{focus-placed, focus-stacked, settled-still}
 use Rattle.wl_desk.proofs.Leading.{kept-aside}
-use Rattle.wl_desk.proofs.Onward.{last-at, marks-as, marks-then, marks-to, none-more}
+use Rattle.wl_desk.proofs.Onward.{last-at, marks-as, marks-to, none-more}
 use Rattle.wl_desk.proofs.Placed.{placed-as}
 use Rattle.wl_desk.proofs.Seated.{asks-by}
 use Rattle.wl_desk.proofs.Tells.{tells-shows}
@@ -63,49 +63,48 @@ midway-at v e p kept seats latest is placed =
       placed = placed;
     }
 
-pub from-aside : (c : ℕ) (lives : Bool) (p : Desktop → Pointer) (d e : Desktop) (aside : List Desktop) (old new : MarkedDesk)
+pub from-aside : (c : ℕ) (p : Desktop → Pointer) (d e : Desktop) (aside : List Desktop) (old new : MarkedDesk)
     → SettlesOn (λ a. pointed (p a) a) (Leads (Message c) d) aside e → AreDistinct (all_windows e) → MarksThrough (unpointed d) aside old.damage new.damage
     → IsAsLarge old.damage new.damage → IsMidway new.desk (unstruck (pointed (p e) e))
-    → (lives ≡ true → ChangesNoWindow c (unpointed d) → IsSettled (pointed (p e) e)) → IsUnsettled c lives old new d
-from-aside c lives p d e aside old new on apart marks sides midway unmoved =
+    → (status_in c e ≡ None → ChangesNoWindow c (unpointed d) → IsSettled (pointed (p e) e)) → IsFollowed c e old new d
+from-aside c p d e aside old new on apart marks sides midway unmoved =
     let before : List Desktop = map (λ a. pointed (p a) a) on.0 in
     let start : Desktop = pointed (p e) e in
     record {
-      path = before ++ start ∷ [];
-      start = start;
-      last = last-at d start before;
-      leads = λ later last settles.
-          subst (λ (way : List Desktop). Leads (Message c) d way last) (sym (append_assoc before (start ∷ []) later)) (on.2 later last settles);
-      midway = midway;
+      led = record {
+        path = before ++ start ∷ [];
+        mid = unstruck start;
+        last = last-at d start before;
+        leads = λ later last settles.
+            subst (λ (way : List Desktop). Leads (Message c) d way last) (sym (append_assoc before (start ∷ []) later)) (on.2 later last settles);
+        midway = midway;
+        sides = sides;
+        marks = marks-as d (unpointed d) (before ++ start ∷ []) aside old.damage new.damage
+            (λ x y.
+            let both = marks-apart p None d e on.0 [] x y apart in (
+              both.0 ∙ none-more (marks_at_least_through all_windows (unpointed d) (on.0 ++ e ∷ e ∷ []) x y)
+                  ∙ ap (λ (xs : List Desktop). marks_at_least_through all_windows (unpointed d) xs x y) (sym on.1),
+              both.1 ∙ none-more (marks_at_most_through all_windows None (unpointed d) (on.0 ++ e ∷ e ∷ []) x y)
+                  ∙ ap (λ (xs : List Desktop). marks_at_most_through all_windows None (unpointed d) xs x y) (sym on.1),
+            )) marks;
+      };
       unmoved = unmoved;
-      sides = sides;
-      marks = marks-as d (unpointed d) (before ++ start ∷ []) aside old.damage new.damage
-          (λ x y.
-          let both = marks-apart p None d e on.0 [] x y apart in (
-            both.0 ∙ none-more (marks_at_least_through all_windows (unpointed d) (on.0 ++ e ∷ e ∷ []) x y)
-                ∙ ap (λ (xs : List Desktop). marks_at_least_through all_windows (unpointed d) xs x y) (sym on.1),
-            both.1 ∙ none-more (marks_at_most_through all_windows None (unpointed d) (on.0 ++ e ∷ e ∷ []) x y)
-                ∙ ap (λ (xs : List Desktop). marks_at_most_through all_windows None (unpointed d) xs x y) (sym on.1),
-          )) marks;
     }
-
-larger : (old mid new : Damaged) → IsAsLarge old mid → IsAsLarge mid new → IsAsLarge old new
-larger old mid new first next = record { width = next.width ∙ first.width; height = next.height ∙ first.height }
 
 -- ---- nobody is told
 
-pub followed : (c : ℕ) (lives : Bool) (request : PointerAsked) (old mid new : MarkedDesk) (d : Desktop) (took : Took c request old mid d)
-    → (lives ≡ true → status_in c took.desktop ≡ None) → SettlesOn (put_back c d) (ServesThrough c d) took.path took.desktop → new.desk.kept ≡ mid.desk.kept → new.desk.seats ≡ mid.desk.seats
-    → new.desk.latest ≡ mid.desk.latest → new.desk.pointer ≡ pointer_after c d took.desktop → new.damage ≡ mid.damage → IsUnsettled c lives old new d
-followed c lives request old mid new d took alive on kept seats latest pointer damage =
+pub followed : (c : ℕ) (request : PointerAsked) (old mid new : MarkedDesk) (d : Desktop) (took : Took c request old mid d)
+    → SettlesOn (put_back c d) (ServesThrough c d) took.path took.desktop → new.desk.kept ≡ mid.desk.kept → new.desk.seats ≡ mid.desk.seats
+    → new.desk.latest ≡ mid.desk.latest → new.desk.pointer ≡ pointer_after c d took.desktop → new.damage ≡ mid.damage → IsFollowed c took.desktop old new d
+followed c request old mid new d took on kept seats latest pointer damage =
     let e : Desktop = took.desktop in
-    from-aside c lives (pointer_after c d) d e took.path old new on (agrees-apart mid.desk.kept e took.kept)
+    from-aside c (pointer_after c d) d e took.path old new on (agrees-apart mid.desk.kept e took.kept)
     (marks-to (unpointed d) took.path old.damage mid.damage new.damage damage took.marks)
     (subst (λ (v : Damaged). IsAsLarge old.damage v) (sym damage) took.sides)
     (midway-at new.desk e (pointer_after c d e) (subst (λ (k : ClientsView). KeptAgrees k e) (sym kept) took.kept)
     (subst (λ (s : List (List ℕ)). AreSeats s e) (sym seats) took.seats)
     (subst (λ (l : List Latest). AreLatest l (unstruck e)) (sym latest) took.latest) pointer (back-placed c d e took.placed))
-    (λ yes untouched. after-settled c d e (alive yes) took.settled (untouched took.path e took.leads (alive yes)))
+    (λ alive untouched. after-settled c d e alive took.settled (untouched took.path e took.leads alive))
 
 -- ---- a new wl_pointer is told
 
@@ -152,10 +151,7 @@ module _ (c id : ℕ) (old mid : MarkedDesk) (d : Desktop) (took : Took c (NewPo
         (subst (λ (f : Option Target). Tells (drawing true) (λ (r : Resident). entered_at id r.peer.serial put.pointer.place (focus_window f (all_windows put))) t.client (unstruck put) n) (sym has) tells))
 
     still : n.desktop.pointer ≡ d.pointer
-    still = (told-still (drawing true) (λ (r : Resident). entered_at id r.peer.serial put.pointer.place (focus_window (Some t) (all_windows put))) t.client put n tells).0
-
-    pub to-end : (n.struck ≡ []) ⊎ ((s : Strike) × (s.client ≡ t.client) × (n.struck ≡ s ∷ []))
-    to-end = (told-still (drawing true) (λ (r : Resident). entered_at id r.peer.serial put.pointer.place (focus_window (Some t) (all_windows put))) t.client put n tells).1
+    still = told-still (drawing true) (λ (r : Resident). entered_at id r.peer.serial put.pointer.place (focus_window (Some t) (all_windows put))) t.client put n tells
 
     pub told-midway : IsMidway told.desk n
     told-midway = record {
@@ -175,34 +171,22 @@ module _ (c id : ℕ) (old mid : MarkedDesk) (d : Desktop) (took : Took c (NewPo
     sides : IsAsLarge old.damage told.damage
     sides = subst (λ (v : Damaged). IsAsLarge old.damage v) (sym damage) took.sides
 
-    pub followed-told : n.struck ≡ [] → IsUnsettled c true old told d
-    followed-told none = record {
-      path = n.desktop ∷ [];
-      start = n.desktop;
-      last = refl;
-      leads = λ later last settles.
-          on-queued c id get.0 d took.path took.desktop n took.placed.moved get.1 has-focus took.leads tells-new none later last settles;
-      midway = subst (λ (ss : List Strike). IsMidway told.desk (record { desktop = n.desktop; struck = ss })) none told-midway;
-      marks = first;
-      sides = sides;
+    pub followed-told : IsFollowed c took.desktop old told d
+    followed-told = record {
+      led = record {
+        path = n.desktop ∷ [];
+        mid = n;
+        last = refl;
+        leads = λ later last settles.
+            on-new c id get.0 d took.path took.desktop n took.placed.moved get.1 has-focus took.leads tells-new later last settles;
+        midway = told-midway;
+        marks = first;
+        sides = sides;
+      };
       unmoved = λ yes untouched.
           settled-still d.pointer n.desktop.pointer (all_windows d) (all_windows n.desktop)
           (record { place = ap (λ (p : Pointer). p.place) still; buttons = ap (λ (p : Pointer). p.buttons) still; focus = ap (λ (p : Pointer). p.focus) still })
           (same-windows put n.desktop
           (tells-shows (drawing true) (λ (r : Resident). entered_at id r.peer.serial put.pointer.place (focus_window (Some t) (all_windows put))) (λ r. refl) t.client (unstruck put) n tells)
           ∙ untouched took.path took.desktop took.leads alive) took.settled;
-    }
-
-    pub followed-ended : (new : MarkedDesk) (s : Strike) → n.struck ≡ s ∷ [] → IsMidway new.desk (unstruck (ended_by s n.desktop))
-        → MarksThrough n.desktop (ended_by s n.desktop ∷ []) told.damage new.damage → IsAsLarge told.damage new.damage → IsUnsettled c false old new d
-    followed-ended new s one midway marks large = record {
-      path = n.desktop ∷ ended_by s n.desktop ∷ [];
-      start = ended_by s n.desktop;
-      last = refl;
-      leads = λ later last settles.
-          on-refused c id get.0 d took.path took.desktop n took.placed.moved get.1 has-focus took.leads tells-new s one later last settles;
-      midway = midway;
-      marks = marks-then d n.desktop (n.desktop ∷ []) (ended_by s n.desktop ∷ []) old.damage told.damage new.damage sides refl first marks;
-      sides = larger old.damage told.damage new.damage sides large;
-      unmoved = λ yes. absurd (true≢false (sym yes));
     }

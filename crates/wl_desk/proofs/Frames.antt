@@ -1,5 +1,6 @@
 -- A frame is shown: the pointer leaves each client that ended by it, and its focus is settled. Where none ended nothing more is marked.
 use Rattle.std.proofs.Common.{◌≡◌, ◌≢◌, ℕ, zero, suc, List, [], ◌∷◌, ◌++◌, Bool, true, false, Option, Some, None, refl, ap, subst, sym, ◌∙◌, inl, inr}
+use Rattle.std.proofs.lemmas.Bool.{true≢false}
 use Rattle.std.specs.Prelude.{◌||◌, ◌⊎◌, ◌<◌, if◌then◌else◌, is_some}
 use Rattle.spec_desktop.specs.declared.cause.Cause.{Cause}
 use Rattle.spec_desktop.specs.Told.{Said}
@@ -37,6 +38,7 @@ use Rattle.wl_clients.specs.declared.grabs.Latest.{Latest}
 use Rattle.wl_desk.specs.Agreeing.{Agrees, AreLatest, AreSeats}
 use Rattle.wl_desk.specs.Midway.{IsMidway, SettlesDown}
 use Rattle.wl_desk.specs.View.{MarkedDesk}
+use Rattle.wl_desk.specs.Ways.{AreEnded, EndsAllFrom, SettlesFrom}
 use Rattle.wl_desk.proofs.Ending.{begins}
 use Rattle.wl_desk.proofs.LatestStay.{latest-stay, tick-keeps}
 use Rattle.wl_desk.proofs.Leading.{leads-on, leads-to}
@@ -137,6 +139,20 @@ frame-ended time done d path e still h c why is =
 frame-keeps-seats : (time : ℕ) → KeepsSeats (Single (Tick time) gave.Tick)
 frame-keeps-seats time k = (λ e. absurd (cc), λ e. absurd (cc))
 
+-- What marks nothing leaves what is to be painted.
+same-from : (d : Desktop) (old new : Damaged) → MarksThrough d [] old new → HasSame old new
+same-from d old new marks x y wide high = at (has new x y) refl (marks x y wide high)
+  where
+    none-or : (a : Bool) → (a || false) ≡ true → a ≡ true
+    none-or true e = refl
+    none-or false e = e
+
+    at : (b : Bool) → has new x y ≡ b
+        → (has new x y ≡ false → (has old x y ≡ false) × (false ≡ false)) × (has new x y ≡ true → (has old x y || false) ≡ true)
+        → b ≡ has old x y
+    at true is h = sym (none-or (has old x y) (h.1 is))
+    at false is h = sym (h.0 is).0
+
 -- where nobody ended in the whole step, nobody did by the frame
 module _ (time : ℕ) (d : Desktop) (aside : List Desktop) (e : Desktop) (leads : Leads (Single (Tick time) gave.Tick) (unpointed d) aside e) (n : ℕ) (start mid last : Midstep)
     (rounds : List Desktop) (each : AreRounds n start rounds mid) (settles : Settles mid last) (none : start.struck ≡ []) (first : StatusesStay e start.desktop)
@@ -160,31 +176,24 @@ module _ (time : ℕ) (d : Desktop) (aside : List Desktop) (e : Desktop) (leads 
   no-rounds = rounds-end-clients n start mid rounds (subst (λ (ss : List Strike). AreToEnd ss start.desktop) (sym none) tt) each (λ c. mid-same c ∙ sym (none-ended c) ∙ sym (first c))
 
   pub rounds-mark-nothing : (old new : Damaged) → MarksThrough start.desktop rounds old new → HasSame old new
-  rounds-mark-nothing old new marks x y wide high = at (has new x y) refl (m x y wide high)
+  rounds-mark-nothing old new marks = same-from start.desktop old new (subst (λ (path : List Desktop). MarksThrough start.desktop path old new) empty marks)
     where
       empty : rounds ≡ []
       empty = (subst (λ (k : ℕ). AreRounds k start rounds mid) no-rounds each).0
 
-      m : MarksThrough start.desktop [] old new
-      m = subst (λ (path : List Desktop). MarksThrough start.desktop path old new) empty marks
-
-      none-or : (a : Bool) → (a || false) ≡ true → a ≡ true
-      none-or true e = refl
-      none-or false e = e
-
-      at : (b : Bool) → has new x y ≡ b
-          → (has new x y ≡ false → (has old x y ≡ false) × (false ≡ false)) × (has new x y ≡ true → (has old x y || false) ≡ true)
-          → b ≡ has old x y
-      at true is h = sym (none-or (has old x y) (h.1 is))
-      at false is h = sym (h.0 is).0
+same-marks : (d : Desktop) (path : List Desktop) (old mid new : Damaged) → IsAsLarge old mid → HasSame mid new → MarksThrough d path old mid → MarksThrough d path old new
+same-marks d path old mid new large same marks x y wide high =
+    let h = marks x y wide high in
+    let is : has new x y ≡ has mid x y = same x y (subst (λ (n : ℕ). x < n) (sym large.width) wide) (subst (λ (n : ℕ). y < n) (sym large.height) high) in
+    (λ none. h.0 (sym is ∙ none), λ some. h.1 (sym is ∙ some))
 
 -- The clients are told of the frame; the pointer leaves those that ended, and its focus is settled.
-pub frames-lead : (time : ℕ) (d : Desktop) (old mid new : MarkedDesk) → Agrees old.desk d
+pub frames-lead : (time : ℕ) (d : Desktop) (old mid ended new : MarkedDesk) → Agrees old.desk d
     → (led : Led (KeptAgrees mid.desk.kept) (Single (Tick time) gave.Tick) old.damage mid.damage (unpointed d)) → MarksIfEnds (unpointed d) led.desktop old.damage mid.damage
     → IsAsLarge old.damage mid.damage → mid.desk.seats ≡ old.desk.seats → mid.desk.latest ≡ old.desk.latest → mid.desk.pointer ≡ pointer_left d led.desktop
-    → ((m : Midstep) → IsMidway mid.desk m → SettlesDown mid new m)
+    → mid.settled ≡ false → EndsAllFrom mid ended → SettlesFrom ended new
     → (led : Led (Agrees new.desk) (Single (Tick time) gave.Tick) old.damage new.damage d) × MarksIfEnds d led.desktop old.damage new.damage
-frames-lead time d old mid new a led quiet large seats latest pointer settles =
+frames-lead time d old mid ended new a led quiet large seats latest pointer unknown ends settles =
     let p : Pointer = pointer_left d led.desktop in
     let start : Midstep = unstruck (pointed p led.desktop) in
     let midway : IsMidway mid.desk start =
@@ -193,16 +202,21 @@ frames-lead time d old mid new a led quiet large seats latest pointer settles =
     (seats-stay old.desk.seats (Single (Tick time) gave.Tick) d led.path led.desktop (frame-keeps-seats time) a.seats led.leads))
     (subst (λ (l : List Latest). AreLatest l (unstruck led.desktop)) (sym latest)
     (latest-stay old.desk.latest (Single (Tick time) gave.Tick) d led.path led.desktop (tick-keeps time) a.latest led.leads)) in
-    let down = settles start midway in
+    let over : AreEnded mid ended start = ends start (record { midway = midway; known = λ yes. absurd (true≢false (sym yes ∙ unknown)) }) in
+    let down : SettlesDown ended new start = settles start over.amid in
+    let idle : HasSame mid.damage ended.damage = same-from start.desktop mid.damage ended.damage over.marks in
+    let size : IsAsLarge old.damage ended.damage = record { width = over.sides.width ∙ large.width; height = over.sides.height ∙ large.height } in
+    let before : MarksThrough (unpointed d) led.path old.damage ended.damage = same-marks (unpointed d) led.path old.damage mid.damage ended.damage large idle led.marks in
     let tick : Happening = Single (Tick time) gave.Tick in
     let on = frames-apart time gave.Tick d led.path led.desktop led.leads in (
-      leads-on tick (λ e. pointer_left d e) d led.path led.desktop old.damage mid new on large led.marks midway down refl,
+      leads-on tick (λ e. pointer_left d e) d led.path led.desktop old.damage ended new on size before over.amid.midway down refl,
       λ same x y wide high.
-          let last = leads-to tick (λ e. pointer_left d e) d led.path led.desktop old.damage mid new on large led.marks midway down refl in
+          let last = leads-to tick (λ e. pointer_left d e) d led.path led.desktop old.damage ended new on size before over.amid.midway down refl in
           let there : StatusesStay d down.last.desktop = λ c. sym (ap (status_in c) last) ∙ same c in
-          let ended = none-ended time d led.path led.desktop led.leads down.count start down.mid down.last down.rounds down.each down.settles refl (λ k. refl) there in
+          let ended-none = none-ended time d led.path led.desktop led.leads down.count start down.mid down.last down.rounds down.each down.settles refl (λ k. refl) there in
           let later = rounds-mark-nothing time d led.path led.desktop led.leads down.count start down.mid down.last down.rounds down.each down.settles refl (λ k. refl) there
-          mid.damage new.damage down.marks in
-          later x y (subst (λ (n : ℕ). x < n) (sym large.width) wide) (subst (λ (n : ℕ). y < n) (sym large.height) high)
-          ∙ quiet ended x y wide high,
+          ended.damage new.damage down.marks in
+          later x y (subst (λ (n : ℕ). x < n) (sym size.width) wide) (subst (λ (n : ℕ). y < n) (sym size.height) high)
+          ∙ idle x y (subst (λ (n : ℕ). x < n) (sym large.width) wide) (subst (λ (n : ℕ). y < n) (sym large.height) high)
+          ∙ quiet ended-none x y wide high,
     )

@@ -39,6 +39,7 @@ pub mod Rounds
 pub mod Seated
 pub mod SeatsStay
 pub mod Seeing
+pub mod Struck
 pub mod Taking
 pub mod Telling
 pub mod Tells

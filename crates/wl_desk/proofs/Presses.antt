@@ -106,40 +106,40 @@ apart-now k seats latest p d a =
     telling-apart (desk_with k seats latest p).desk (unstruck (record d { pointer = d.pointer })) (begins-telling k seats latest p p d.pointer d a (ap (λ (r : Pointer). r.place) a.pointer))
 
 -- nothing is done, and nobody is to end
-module _ (k : KeptDesk) (seats : List (List ℕ)) (latest : List Latest) (p : Pointer) (new : MarkedDesk) (ends : EndsFrom (desk_with k seats latest p) new) (d : Desktop)
+module _ (k : KeptDesk) (seats : List (List ℕ)) (latest : List Latest) (p : Pointer) (on : Bool) (new : MarkedDesk) (ends : EndsFrom (record (desk_with k seats latest p) { settled = on }) new) (d : Desktop)
     (a : Agrees (desk_with k seats latest p).desk d) where
   still-midway : IsMidway (desk_with k seats latest p).desk (unstruck d)
   still-midway = record { telling = begins-telling k seats latest p p d.pointer d a (ap (λ (r : Pointer). r.place) a.pointer); pointer = a.pointer; placed = a.placed }
 
-  still-down : SettlesDown (desk_with k seats latest p) new (unstruck d)
+  still-down : SettlesDown (record (desk_with k seats latest p) { settled = on }) new (unstruck d)
   still-down = ends (unstruck d) still-midway a.settled
 
   still-change : MarksChange None d d k.damage k.damage
   still-change = change-none None d k.damage (apart-now k seats latest p d a)
 
   abbrev still_way : List Desktop
-  still_way = path None d d (unstruck d) (shows-itself d d refl) k.damage (desk_with k seats latest p) new (record { width = refl; height = refl }) still-change still-midway still-down
+  still_way = path None d d (unstruck d) (shows-itself d d refl) k.damage (record (desk_with k seats latest p) { settled = on }) new (record { width = refl; height = refl }) still-change still-midway still-down
 
   -- what leads no further leads to where the ends that follow do
   pub still-leads : (h : Happening) → None ≡ raised_by h d → ((way : List Desktop) (e : Desktop) → ending_through way e (unstruck d) → Leads h d way e) → Led (Agrees new.desk) h k.damage new.damage d
   still-leads h none leads =
-      own-leads None d d (unstruck d) (shows-itself d d refl) k.damage (desk_with k seats latest p) new (record { width = refl; height = refl }) still-change still-midway still-down h none
+      own-leads None d d (unstruck d) (shows-itself d d refl) k.damage (record (desk_with k seats latest p) { settled = on }) new (record { width = refl; height = refl }) still-change still-midway still-down h none
       (leads still_way still-down.last.desktop
       (ends-settled (unstruck d) still_way still-down.last.desktop a.settled
-      (all None d d (unstruck d) (shows-itself d d refl) k.damage (desk_with k seats latest p) new (record { width = refl; height = refl }) still-change still-midway still-down).0))
+      (all None d d (unstruck d) (shows-itself d d refl) k.damage (record (desk_with k seats latest p) { settled = on }) new (record { width = refl; height = refl }) still-change still-midway still-down).0))
 
-pub presses-not : (time button : ℕ) (k : KeptDesk) (seats : List (List ℕ)) (latest : List Latest) (p : Pointer) → is_press button p.buttons ≡ false
-    → LeadsOnceEnded (Single (Button time button true) gave.Button) (desk_with k seats latest p) (desk_with k seats latest p)
-presses-not time button k seats latest p not new ends d a =
+pub presses-not : (time button : ℕ) (k : KeptDesk) (seats : List (List ℕ)) (latest : List Latest) (p : Pointer) (on : Bool) → is_press button p.buttons ≡ false
+    → LeadsOnceEnded (Single (Button time button true) gave.Button) (record (desk_with k seats latest p) { settled = on }) (record (desk_with k seats latest p) { settled = on })
+presses-not time button k seats latest p on not new ends d a =
     let idle : is_press button d.pointer.buttons ≡ false = sym (ap (λ (r : Pointer). is_press button r.buttons) a.pointer) ∙ not in
-    still-leads k seats latest p new ends d a (Single (Button time button true) gave.Button) (ap (λ (b : Bool). raised_if b d) (sym idle))
+    still-leads k seats latest p on new ends d a (Single (Button time button true) gave.Button) (ap (λ (b : Bool). raised_if b d) (sym idle))
     (λ way e over. (refl, subst (λ (b : Bool). PressesThen b time button d (ending_through way e)) (sym idle) over))
 
-pub releases-not : (time button : ℕ) (k : KeptDesk) (seats : List (List ℕ)) (latest : List Latest) (p : Pointer) → is_down button p.buttons ≡ false
-    → LeadsOnceEnded (Single (Button time button false) gave.Button) (desk_with k seats latest p) (desk_with k seats latest p)
-releases-not time button k seats latest p not new ends d a =
+pub releases-not : (time button : ℕ) (k : KeptDesk) (seats : List (List ℕ)) (latest : List Latest) (p : Pointer) (on : Bool) → is_down button p.buttons ≡ false
+    → LeadsOnceEnded (Single (Button time button false) gave.Button) (record (desk_with k seats latest p) { settled = on }) (record (desk_with k seats latest p) { settled = on })
+releases-not time button k seats latest p on not new ends d a =
     let idle : is_down button d.pointer.buttons ≡ false = sym (ap (λ (r : Pointer). is_down button r.buttons) a.pointer) ∙ not in
-    still-leads k seats latest p new ends d a (Single (Button time button false) gave.Button) refl
+    still-leads k seats latest p on new ends d a (Single (Button time button false) gave.Button) refl
     (λ way e over. (refl, subst (λ (b : Bool). ReleasesThen b time button d (ending_through way e)) (sym idle) over))
 
 -- ---- a press

@@ -27,7 +27,7 @@ use Rattle.wl_clients.specs.Midway.{first_struck, opened_desk}
 use Rattle.wl_clients.specs.declared.grabs.Latest.{Latest}
 use Rattle.wl_clients.specs.View.{DeskView as KeptView}
 use Rattle.wl_desk.specs.Doing.{IsTellable, is_told}
-use Rattle.wl_desk.specs.Midway.{IsMidway, IsOfFocus, IsTelling, SettlesDown, unpointed_mid}
+use Rattle.wl_desk.specs.Midway.{IsAmid, IsMidway, IsOfFocus, IsTelling, SettlesDown, unpointed_mid}
 use Rattle.wl_desk.specs.View.{DeskView, MarkedDesk}
 use Rattle.wl_scene.specs.Focus.{IsSeen}
 use Rattle.wl_desk.proofs.Applying.{focus-told}
@@ -180,21 +180,21 @@ pub record AreDone (k : ℕ) (old now : MarkedDesk) (m : Midstep) : Type 0 where
   pub rounds : List Desktop
   pub mid : Midstep
   pub each : AreRounds k m rounds mid
-  pub midway : IsMidway now.desk mid
+  pub amid : IsAmid now mid
   pub marks : MarksThrough m.desktop rounds old.damage now.damage
 
-marks-none : (d : Desktop) (old : Damaged) → MarksThrough d [] old old
+pub marks-none : (d : Desktop) (old : Damaged) → MarksThrough d [] old old
 marks-none d old = λ x y left above. (λ none. (none, refl), λ some. ap (λ (b : Bool). b || false) some)
 
-pub none-done : (old : MarkedDesk) (m : Midstep) → IsMidway old.desk m → AreDone 0 old old m
-none-done old m midway = record { rounds = []; mid = m; each = (refl, refl); midway = midway; marks = marks-none m.desktop old.damage }
+pub none-done : (old : MarkedDesk) (m : Midstep) → IsAmid old m → AreDone 0 old old m
+none-done old m amid = record { rounds = []; mid = m; each = (refl, refl); amid = amid; marks = marks-none m.desktop old.damage }
 
 -- one more
 pub more-done : (k n : ℕ) (old now then : MarkedDesk) (m settled : Midstep) (s : Strike) (ss : List Strike) (done : AreDone k old now m) → n ≡ suc k
     → IsAsLarge old.damage now.damage → Settles done.mid settled
-    → settled.struck ≡ s ∷ ss → IsMidway then.desk (record { desktop = ended_by s settled.desktop; struck = ss })
+    → settled.struck ≡ s ∷ ss → IsAmid then (record { desktop = ended_by s settled.desktop; struck = ss })
     → MarksThrough settled.desktop (ended_by s settled.desktop ∷ []) now.damage then.damage → AreDone n old then m
-more-done k n old now then m settled s ss done next large settles struck midway marks =
+more-done k n old now then m settled s ss done next large settles struck amid marks =
     let new : Midstep = record { desktop = ended_by s settled.desktop; struck = ss } in
     let later : List Desktop = settled.desktop ∷ ended_by s settled.desktop ∷ [] in
     let round : IsRound done.mid later new = (settled, s, ss, settles, struck, refl, refl) in
@@ -203,8 +203,8 @@ more-done k n old now then m settled s ss done next large settles struck midway 
       rounds = done.rounds ++ later;
       mid = new;
       each = subst (λ (j : ℕ). AreRounds j m (done.rounds ++ later) new) (sym next) each;
-      midway = midway;
-      marks = marks-more m done.mid new done.rounds later k old.damage now.damage then.damage (midway-apart now.desk done.mid done.midway) done.each round large done.marks marks;
+      amid = amid;
+      marks = marks-more m done.mid new done.rounds later k old.damage now.damage then.damage (midway-apart now.desk done.mid done.amid.midway) done.each round large done.marks marks;
     }
 
 -- there are few
@@ -234,7 +234,7 @@ settles-down k old now new m last done few settles over midway same =
       over = over;
       midway = midway;
       marks = subst (λ (dmg : Damaged). MarksThrough m.desktop done.rounds old.damage dmg) (sym same) done.marks;
-      distinct = midway-apart now.desk done.mid done.midway;
+      distinct = midway-apart now.desk done.mid done.amid.midway;
     }
 
 -- where the focus is settled, and nobody is to end, nothing is done
@@ -261,43 +261,43 @@ ends-not old none m midway is = still-down old m midway (none-first m.struck (no
 
 -- So many rounds were done, whatever the middle of the step; where there was one, there are 32 clients.
 pub record AreSettled (k : ℕ) (old now : MarkedDesk) : Type 0 where
-  pub done : (m : Midstep) → IsMidway old.desk m → AreDone k old now m × ((k ≡ 0) ⊎ (length m.desktop.clients ≡ 32))
+  pub done : (m : Midstep) → IsAmid old m → AreDone k old now m × ((k ≡ 0) ⊎ (length m.desktop.clients ≡ 32))
   pub sides : IsAsLarge old.damage now.damage
   pub rests : IsLeft old.desk.kept now.desk.kept
   pub output : now.desk.kept.output ≡ old.desk.kept.output
 
 pub none-settled : (old : MarkedDesk) → AreSettled 0 old old
 none-settled old =
-    record { done = λ m midway. (none-done old m midway, inl refl); sides = record { width = refl; height = refl }; rests = left-all old.desk.kept; output = refl }
+    record { done = λ m amid. (none-done old m amid, inl refl); sides = record { width = refl; height = refl }; rests = left-all old.desk.kept; output = refl }
 
 module _ (k : ℕ) (old now : MarkedDesk) (settled : AreSettled k old now) where
   -- the loop never comes to its end
-  pub settled-over : 32 < k → (new : MarkedDesk) (m : Midstep) → IsMidway old.desk m → SettlesDown old new m
-  settled-over past new m midway = by (settled.done m midway)
+  pub settled-over : 32 < k → (new : MarkedDesk) (m : Midstep) → IsAmid old m → SettlesDown old new m
+  settled-over past new m amid = by (settled.done m amid)
     where
       by : AreDone k old now m × ((k ≡ 0) ⊎ (length m.desktop.clients ≡ 32)) → SettlesDown old new m
       by (done, inl none) = absurd (omega (arith, none, past))
-      by (done, inr long) = let few = few-done k old now m midway long done in absurd (omega (arith, few, past))
+      by (done, inr long) = let few = few-done k old now m amid.midway long done in absurd (omega (arith, few, past))
 
-  module _ (once : MarkedDesk) (settles : (m : Midstep) → IsMidway now.desk m → (n : Midstep) × Settles m n × IsMidway once.desk n)
+  module _ (once : MarkedDesk) (settles : (m : Midstep) → IsAmid now m → (n : Midstep) × Settles m n × IsMidway once.desk n)
       (damage : once.damage ≡ now.damage) where
     -- nobody is to end
-    pub settled-last : k < 33 → ((m : Midstep) → IsTelling once.desk m → None ≡ first_struck m.struck) → (m : Midstep) → IsMidway old.desk m → SettlesDown old once m
-    settled-last few none m midway =
-        let done = (settled.done m midway).0 in
-        let turn = settles done.mid done.midway in
+    pub settled-last : k < 33 → ((m : Midstep) → IsTelling once.desk m → None ≡ first_struck m.struck) → (m : Midstep) → IsAmid old m → SettlesDown old once m
+    settled-last few none m amid =
+        let done = (settled.done m amid).0 in
+        let turn = settles done.mid done.amid in
         settles-down k old now once m turn.0 done few turn.1 (none-first turn.0.struck (none turn.0 turn.2.telling)) turn.2 damage
 
     -- or the first does
     module _ (client : ℕ) (first : (m : Midstep) → IsTelling once.desk m → Some client ≡ first_struck m.struck) (count : length once.desk.kept.clients ≡ 32) (new : MarkedDesk)
         (ends : (s : Strike) (ss : List Strike) (m : Midstep) → s.client ≡ client → m.struck ≡ s ∷ ss → IsMidway once.desk m
-        → IsMidway new.desk (record { desktop = ended_by s m.desktop; struck = ss }))
+        → IsAmid new (record { desktop = ended_by s m.desktop; struck = ss }))
         (marks : (s : Strike) (ss : List Strike) (m : Midstep) → s.client ≡ client → m.struck ≡ s ∷ ss → IsMidway once.desk m
         → MarksThrough m.desktop (ended_by s m.desktop ∷ []) once.damage new.damage) where
-      pub settled-next : (n : ℕ) → n ≡ suc k → (m : Midstep) → IsMidway old.desk m → AreDone n old new m × ((n ≡ 0) ⊎ (length m.desktop.clients ≡ 32))
-      settled-next n next m midway =
-          let done = (settled.done m midway).0 in
-          let turn = settles done.mid done.midway in
+      pub settled-next : (n : ℕ) → n ≡ suc k → (m : Midstep) → IsAmid old m → AreDone n old new m × ((n ≡ 0) ⊎ (length m.desktop.clients ≡ 32))
+      settled-next n next m amid =
+          let done = (settled.done m amid).0 in
+          let turn = settles done.mid done.amid in
           let it = first-of turn.0.struck client (first turn.0 turn.2.telling) in (
             more-done k n old now new m turn.0 it.0 it.1 done next settled.sides turn.1 it.2 (ends it.0 it.1 turn.0 it.3 it.2 turn.2)
                 (subst (λ (dmg : Damaged). MarksThrough turn.0.desktop (ended_by it.0 turn.0.desktop ∷ []) dmg new.damage) damage (marks it.0 it.1 turn.0 it.3 it.2 turn.2)),

@@ -66,32 +66,32 @@ rested old new d a kept seats latest pointer = record {
 
 -- ---- of a whole desk
 
-abbrev pub desk_with : KeptDesk → List (List ℕ) → List Latest → Pointer → MarkedDesk
-desk_with k seats latest p = record { desk = record { kept = k.desk; seats = seats; latest = latest; pointer = p }; damage = k.damage }
+abbrev pub desk_with : KeptDesk → List (List ℕ) → List Latest → Pointer → Bool → MarkedDesk
+desk_with k seats latest p on = record { desk = record { kept = k.desk; seats = seats; latest = latest; pointer = p }; damage = k.damage; settled = on }
 
-pub rested-whole : (c : ℕ) (k now : KeptDesk) (seats is : List (List ℕ)) (latest : List Latest) (p : Pointer) (old : MarkedDesk) → desk_with k seats latest p ≡ old → is ≡ seats
-    → ((d : Desktop) → KeptAgrees k.desk d → KeptAgrees now.desk d × IsIdleIn c d) → (d : Desktop) → Agrees old.desk d → Agrees (desk_with now is latest p).desk d × IsIdleIn c d
-rested-whole c k now seats is latest p old view same idle d a =
-    let was : Agrees (desk_with k seats latest p).desk d = subst (λ (m : MarkedDesk). Agrees m.desk d) (sym view) a in
+pub rested-whole : (c : ℕ) (k now : KeptDesk) (seats is : List (List ℕ)) (latest : List Latest) (p : Pointer) (on : Bool) (old : MarkedDesk) → desk_with k seats latest p on ≡ old → is ≡ seats
+    → ((d : Desktop) → KeptAgrees k.desk d → KeptAgrees now.desk d × IsIdleIn c d) → (d : Desktop) → Agrees old.desk d → Agrees (desk_with now is latest p on).desk d × IsIdleIn c d
+rested-whole c k now seats is latest p on old view same idle d a =
+    let was : Agrees (desk_with k seats latest p on).desk d = subst (λ (m : MarkedDesk). Agrees m.desk d) (sym view) a in
     let h = idle (unpointed d) was.kept in
-    (rested (desk_with k seats latest p) (desk_with now is latest p) d was h.0 same refl refl, h.1)
+    (rested (desk_with k seats latest p on) (desk_with now is latest p on) d was h.0 same refl refl, h.1)
 
-pub took-whole : (c : ℕ) (request : PointerAsked) (room : Bool) (k now : KeptDesk) (seats is : List (List ℕ)) (latest : List Latest) (p : Pointer) (old : MarkedDesk) → desk_with k seats latest p ≡ old
+pub took-whole : (c : ℕ) (request : PointerAsked) (room : Bool) (k now : KeptDesk) (seats is : List (List ℕ)) (latest : List Latest) (p : Pointer) (on : Bool) (old : MarkedDesk) → desk_with k seats latest p on ≡ old
     → is ≡ seats_after room request c seats → (room ≡ true → IsPlaced c seats) → (told : Latest)
-    → ((d : Desktop) → Agrees (desk_with k seats latest p).desk d → IsLatest told (client_at c d))
+    → ((d : Desktop) → Agrees (desk_with k seats latest p on).desk d → IsLatest told (client_at c d))
     → ((d : Desktop) → KeptAgrees k.desk d → IsLatest told (client_at c d) → Led (KeptAgrees now.desk) (Message c) k.damage now.damage d)
     → ((d : Desktop) → KeptAgrees k.desk d → AsksOfPointer (numbers_in k.desk.clients c) (asked c d) request)
     → ((id : ℕ) → request ≡ NewPointer id → room ≡ false → (e : Desktop) → KeptAgrees now.desk e → is_some (status_in c e) ≡ true) → IsAsLarge k.damage now.damage
-    → (d : Desktop) → Agrees old.desk d → Took c request old (desk_with now is latest p) d
-took-whole c request room k now seats is latest p old view same placed told serials leads asks no_room large d a =
-    let was : Agrees (desk_with k seats latest p).desk d = subst (λ (m : MarkedDesk). Agrees m.desk d) (sym view) a in
-    subst (λ (m : MarkedDesk). Took c request m (desk_with now is latest p) d) view
-    (taken c request room (desk_with k seats latest p) (desk_with now is latest p) d was (leads (unpointed d) was.kept (serials d was)) (asks (unpointed d) was.kept) no_room large placed same refl refl)
+    → (d : Desktop) → Agrees old.desk d → Took c request old (desk_with now is latest p on) d
+took-whole c request room k now seats is latest p on old view same placed told serials leads asks no_room large d a =
+    let was : Agrees (desk_with k seats latest p on).desk d = subst (λ (m : MarkedDesk). Agrees m.desk d) (sym view) a in
+    subst (λ (m : MarkedDesk). Took c request m (desk_with now is latest p on) d) view
+    (taken c request room (desk_with k seats latest p on) (desk_with now is latest p on) d was (leads (unpointed d) was.kept (serials d was)) (asks (unpointed d) was.kept) no_room large placed same refl refl)
 
 -- what is said of the clients' windows is said of the desktop's
-pub untouched-whole : (c : ℕ) (k : KeptDesk) (seats : List (List ℕ)) (latest : List Latest) (p : Pointer) (old : MarkedDesk) → desk_with k seats latest p ≡ old
+pub untouched-whole : (c : ℕ) (k : KeptDesk) (seats : List (List ℕ)) (latest : List Latest) (p : Pointer) (on : Bool) (old : MarkedDesk) → desk_with k seats latest p on ≡ old
     → ((d : Desktop) → KeptAgrees k.desk d → ChangesNoWindow c d) → (d : Desktop) → Agrees old.desk d → ChangesNoWindow c (unpointed d)
-untouched-whole c k seats latest p old view untouched d a = untouched (unpointed d) (subst (λ (m : MarkedDesk). Agrees m.desk d) (sym view) a).kept
+untouched-whole c k seats latest p on old view untouched d a = untouched (unpointed d) (subst (λ (m : MarkedDesk). Agrees m.desk d) (sym view) a).kept
 
 -- what was written to the wl_pointers of all is there
 pub written : {V Z : Type 0} (v : Vec V Z) (xs now : List V) → length xs ≡ length now → now ≡ v.items → (with_items v xs).items ≡ xs

@@ -1,11 +1,11 @@
 -- What a message does before the focus is settled: it is taken with the pointer put aside, and then the pointer follows it.
-use Rattle.std.specs.Prelude.{ℕ, ◌≡◌, ◌++◌, Bool, true, List, Option, Some, None}
+use Rattle.std.specs.Prelude.{ℕ, ◌≡◌, ◌++◌, List, Option, Some, None}
 use Rattle.wl_scene.specs.Marking.{IsAsLarge}
 use Rattle.spec_desktop.specs.Pointer.{Pointer, Target}
 use Rattle.spec_desktop.specs.Desktop.{Desktop, status_in, unpointed}
-use Rattle.spec_desktop.specs.Happenings.{Leads, Message}
-use Rattle.spec_desktop.specs.Settling.{unstruck}
-use Rattle.spec_desktop.specs.Through.{SettlesAllThrough}
+use Rattle.spec_desktop.specs.Happenings.{Happening, Leads, Message}
+use Rattle.spec_desktop.specs.Settling.{Midstep, ended_all, unstruck}
+use Rattle.spec_desktop.specs.Through.{SettlesAllThrough, ends_through}
 use Rattle.law_desktop.specs.Focus.{IsSettled}
 use Rattle.law_desktop.specs.Pointed.Marking.{last_of}
 use Rattle.law_desktop.specs.Pointed.Pointed.{asked, pointer_if}
@@ -35,18 +35,24 @@ pub record Took (c : ℕ) (request : PointerAsked) (old new : MarkedDesk) (d : D
   pub placed : IsPlaced d
   pub settled : IsSettled d
 
--- A message of this client led through these desktops to the last of them, and on to wherever the focus is settled from there. The desk
--- agrees with that one, and what was marked is what is to be marked on the way. Where the client lives on and no window changed, the focus is
--- settled there still.
-pub record IsUnsettled (c : ℕ) (lives : Bool) (old new : MarkedDesk) (d : Desktop) : Type 0 where
+-- What happens led through these desktops to the middle of a step, and on to wherever it leads once those have ended that are to end and the
+-- focus is settled from there. The desk agrees with it, and what was marked is what is to be marked on the way.
+pub record IsUnsettled (h : Happening) (old new : MarkedDesk) (d : Desktop) : Type 0 where
   pub path : List Desktop
-  pub start : Desktop
-  pub last : last_of d path ≡ start
-  pub leads : (later : List Desktop) (e : Desktop) → SettlesAllThrough 33 (unstruck start) later e → Leads (Message c) d (path ++ later) e
-  pub midway : IsMidway new.desk (unstruck start)
+  pub mid : Midstep
+  pub last : last_of d path ≡ mid.desktop
+  pub leads :
+      (later : List Desktop) (e : Desktop) → SettlesAllThrough 33 (unstruck (ended_all mid.struck mid.desktop)) later e
+      → Leads h d (path ++ (ends_through mid.struck mid.desktop ++ later)) e
+  pub midway : IsMidway new.desk mid
   pub marks : MarksThrough d path old.damage new.damage
   pub sides : IsAsLarge old.damage new.damage
-  pub unmoved : lives ≡ true → ChangesNoWindow c (unpointed d) → IsSettled start
+
+-- A message of this client led so far, by way of the desktop e. Where the client lives on there and no window changed, the focus is settled
+-- still.
+pub record IsFollowed (c : ℕ) (e : Desktop) (old new : MarkedDesk) (d : Desktop) : Type 0 where
+  pub led : IsUnsettled (Message c) old new d
+  pub unmoved : status_in c e ≡ None → ChangesNoWindow c (unpointed d) → IsSettled led.mid.desktop
 
 -- The pointer where it has left the client of this surface, if that ended.
 abbrev pub left_of : Option Target → Desktop → Pointer → Pointer

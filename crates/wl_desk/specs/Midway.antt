@@ -9,6 +9,7 @@ use Rattle.spec_desktop.specs.Desktop.{Desktop, Resident, unpointed}
 use Rattle.spec_desktop.specs.Marks.{AreDistinct}
 use Rattle.spec_desktop.specs.Settling.{Midstep, Settles}
 use Rattle.spec_desktop.specs.Stacked.{all_windows}
+use Rattle.law_desktop.specs.Focus.{IsSettled}
 use Rattle.law_desktop.specs.Pointed.Rounds.{AreRounds}
 use Rattle.wl_clients.specs.Marking.{MarksThrough}
 use Rattle.wl_clients.specs.Midway.{IsMid}
@@ -32,6 +33,11 @@ pub record IsMidway (v : DeskView) (m : Midstep) : Type 0 where
   pub telling : IsTelling v m
   pub pointer : v.pointer ≡ m.desktop.pointer
   pub placed : IsPlaced m.desktop
+
+-- The same of a desk whose focus is settled, if that is known.
+pub record IsAmid (v : MarkedDesk) (m : Midstep) : Type 0 where
+  pub midway : IsMidway v.desk m
+  pub known : v.settled ≡ true → IsSettled m.desktop
 
 -- this is what each wl_pointer of a client that lives is told by an event, and what it makes of the client
 abbrev pub IsToldOf : PointerEvent → (Resident → Resident) → (Resident → List Said) → Option Resident → Type 0

@@ -1,5 +1,5 @@
 -- What a desk keeps, as plain values.
-use Rattle.std.specs.Prelude.{ℕ, zero, suc, List, [], None, slice_index_or}
+use Rattle.std.specs.Prelude.{ℕ, zero, suc, Bool, List, [], None, slice_index_or}
 use Rattle.wl_paint.specs.Damage.{Damaged}
 use Rattle.spec_desktop.specs.Pointer.{Pointer}
 use Rattle.wl_clients.specs.declared.grabs.Latest.{Latest}
@@ -13,10 +13,11 @@ pub record DeskView : Type 0 where
   pub latest : List Latest
   pub pointer : Pointer
 
--- what a desk keeps, and what is to be painted again of the output
+-- what a desk keeps, what is to be painted again of the output, and whether the focus is known to be settled
 pub record MarkedDesk : Type 0 where
   pub desk : DeskView
   pub damage : Damaged
+  pub settled : Bool
 
 -- the wl_pointers of the client with this number; there is no client 0
 abbrev pub seat_of : List (List ℕ) → ℕ → List ℕ

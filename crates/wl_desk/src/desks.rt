@@ -21,9 +21,9 @@ ghost use Rattle.wl_clients.specs.Pointing.{IsLatest};
 ghost use Rattle.wl_clients.specs.Touching.{ChangesNoWindow};
 ghost use Rattle.wl_desk.specs.Agreeing.{Agrees, LeadsBy, MarksNothing};
 ghost use Rattle.wl_desk.specs.Beginning.{IsToMove};
-ghost use Rattle.wl_desk.specs.Following.{IsUnsettled, Took, left_of};
+ghost use Rattle.wl_desk.specs.Following.{IsFollowed, Took, left_of};
 ghost use Rattle.wl_desk.specs.View.{DeskView, MarkedDesk, latest_of, no_latest, seat_of};
-ghost use Rattle.wl_desk.specs.Ways.{LeadsOnceEnded, LeadsOnceSettled, LeadsQuietlyOnceSettled, SettlesFrom};
+ghost use Rattle.wl_desk.specs.Ways.{LeadsOnceSettled, LeadsQuietlyOnceSettled, SettlesFrom};
 
 use crate::latest::{forget, latest_of, none};
 use crate::moves::to_move;
@@ -43,13 +43,17 @@ use wl_scene::{Focus, Target};
 /// - what is kept of the clients;
 /// - the wl_pointers and the serials of each client, by number from 1;
 /// - the pointer;
-/// - which points of the output are to be painted again.
+/// - which points of the output are to be painted again;
+/// - whether the pointer's focus is known to be settled.
 #[derive(Drop)]
 pub struct Desk<A: Allocator> {
     pub(crate) clients: Clients<A>,
     pub(crate) seats: Vec<Vec<u32, A>, A>,
     pub(crate) latest: Vec<Latest, A>,
     pub(crate) pointer: Focus,
+    /// Settling the focus would do nothing. So a message that touches no windows costs no look at
+    /// them.
+    pub(crate) is_settled: bool,
 }
 
 impl<A: Allocator> Model for Desk<A> {
@@ -61,6 +65,7 @@ impl<A: Allocator> Model for Desk<A> {
     ghost view = { λ d. record {
       desk = record { kept = d.clients.desk; seats = map (λ s. s.items) d.seats.items; latest = d.latest.items; pointer = d.pointer };
       damage = d.clients.damage;
+      settled = d.is_settled;
     } };
 
     ghost invariant = { λ d. (length d.seats.items ≡ 32) × (length d.latest.items ≡ 32) };
@@ -95,6 +100,7 @@ impl<A: Allocator + Copy> Desk<A> {
             seats,
             latest,
             pointer: Focus::new(),
+            is_settled: false,
         })
     }
 
@@ -153,11 +159,10 @@ impl<A: Allocator + Copy> Desk<A> {
     /// Takes the first whole message of a living client. `More` if there is none; then nothing
     /// changes. What the message changes is marked; if the client ends by it, its windows are.
     ///
-    /// The pointer's focus is settled once. If the message touches no windows and its client lives
-    /// on, it is settled already, and nothing is done for it. A client that can't be told of it is
-    /// to end (see [`Desk::struck`]).
+    /// If its client can't be told of it, that is to end (see [`Desk::struck`]). Then the pointer's
+    /// focus is to be settled.
     pub fn serve(&mut self, client: ClientNo) -> Served
-        ensures leads { result ≢ Served.More → LeadsOnceEnded (Message client) self.old self.new }
+        ensures leads { result ≢ Served.More → LeadsOnceSettled (Message client) self.old self.new }
         ensures told { result ≢ Served.More → (d : Desktop) → Agrees self.new.desk d → result ≡ served_of (status_of (peer_at client d)) }
         ensures more { result ≡ Served.More → (d : Desktop) → Agrees self.old.desk d → Agrees self.new.desk d × IsIdleIn client d }
         ensures rests { result ≡ Served.More → self.new.damage ≡ self.old.damage }
@@ -169,8 +174,9 @@ impl<A: Allocator + Copy> Desk<A> {
         let Some(taken) = self.take(client) else {
             return Served::More;
         };
-        let lives = self.follow(client, taken.pointer, to_move(movable, taken.pointer));
-        self.settle_after(lives, taken.touches_windows);
+        let fed = self.clients.status(client);
+        self.follow(client, taken.pointer, to_move(movable, taken.pointer));
+        self.is_settled = is_still(fed, taken.touches_windows);
         served_of(self.clients.status(client))
     }
 
@@ -209,11 +215,9 @@ impl<A: Allocator + Copy> Desk<A> {
     /// the focus, if its client has it (wayland.xml, wl_pointer.enter). If it begins to move a
     /// toplevel, motions move that from now on. A toplevel that doesn't stand any more isn't moved
     /// any more.
-    ///
-    /// The answer is true if the client lives on.
-    fn follow(&mut self, client: ClientNo, request: PointerAsked, toplevel: Option<Target>) -> bool
-        ensures follows { (old : MarkedDesk) (d : Desktop) → Took client request old self.old d → IsToMove (asked client d) client d (target_or_none toplevel)
-            → IsUnsettled client result old self.new d }
+    fn follow(&mut self, client: ClientNo, request: PointerAsked, toplevel: Option<Target>)
+        ensures follows { (old : MarkedDesk) (d : Desktop) → (took : Took client request old self.old d)
+            → IsToMove (asked client d) client d (target_or_none toplevel) → IsFollowed client took.desktop old self.new d }
         ensures sides { IsAsLarge self.old.damage self.new.damage }
         ensures rests { (c : ℕ) → length (rest_in c self.new.desk.kept) ≤ length (rest_in c self.old.desk.kept) }
         ensures output { self.new.desk.kept.output ≡ self.old.desk.kept.output }
@@ -221,36 +225,31 @@ impl<A: Allocator + Copy> Desk<A> {
         if let Fed::Ended(_) = self.clients.status(client) {
             self.pointer.forget(client);
             self.let_go();
-            return false;
+            return;
         }
         let PointerAsked::NewPointer(id) = request else {
             self.begin_move(toplevel);
             self.let_go();
-            return true;
+            return;
         };
-        self.tell_new(client, id)
+        self.tell_new(client, id);
     }
 
-    /// Tells a new wl_pointer of a living client of the focus, if its client has it. If that isn't
-    /// queued, the client ends. The answer is true if it lives on.
-    fn tell_new(&mut self, client: ClientNo, id: u32) -> bool
+    /// Tells a new wl_pointer of a living client of the focus, if its client has it.
+    fn tell_new(&mut self, client: ClientNo, id: u32)
         ensures tells { (old : MarkedDesk) (d : Desktop) → (took : Took client (PointerAsked.NewPointer id) old self.old d)
-            → status_in client took.desktop ≡ None → IsUnsettled client result old self.new d }
+            → status_in client took.desktop ≡ None → IsFollowed client took.desktop old self.new d }
         ensures sides { IsAsLarge self.old.damage self.new.damage }
         ensures rests { (c : ℕ) → length (rest_in c self.new.desk.kept) ≤ length (rest_in c self.old.desk.kept) }
         ensures output { self.new.desk.kept.output ≡ self.old.desk.kept.output }
     {
         let Some(focus) = self.pointer.focus() else {
-            return true;
+            return;
         };
         if focus.client != client {
-            return true;
+            return;
         }
-        if self.enter_new(focus, id) {
-            return true;
-        }
-        self.end_struck(client);
-        false
+        self.enter_alone(focus, id);
     }
 
     /// Memory runs out for a living client, and it ends. Its windows are marked. The pointer's
@@ -263,6 +262,7 @@ impl<A: Allocator + Copy> Desk<A> {
     {
         self.clients.starve(client);
         self.pointer.forget(client);
+        self.is_settled = false;
     }
 
     /// A frame was shown at this time, in milliseconds. Tells the clients, in rising number, that
@@ -276,6 +276,7 @@ impl<A: Allocator + Copy> Desk<A> {
     {
         self.clients.frames(time);
         self.forget_ended();
+        self.is_settled = false;
     }
 
     /// The pointer leaves all clients that ended.
@@ -338,7 +339,7 @@ impl<A: Allocator + Copy> Desk<A> {
     /// A client closed its connection. Its windows are marked. The answer is true if it was alive;
     /// the pointer's focus is to be settled then. Else nothing is done.
     pub fn gone(&mut self, client: ClientNo) -> bool
-        ensures leads { result ≡ true → LeadsOnceSettled (Single (Leave client) (Done.Gone true)) self.old self.new }
+        ensures leads { result ≡ true → (new : MarkedDesk) → SettlesFrom self.new new → LeadsBy (Single (Leave client) (Done.Gone true)) self.old new }
         ensures stays { result ≡ false → LeadsBy (Single (Leave client) (Done.Gone false)) self.old self.new }
         ensures sides { IsAsLarge self.old.damage self.new.damage }
         ensures output { self.new.desk.kept.output ≡ self.old.desk.kept.output }
@@ -347,6 +348,7 @@ impl<A: Allocator + Copy> Desk<A> {
             return false;
         }
         self.pointer.forget(client);
+        self.is_settled = false;
         true
     }
 
@@ -461,6 +463,18 @@ fn no_serials<A: Allocator + Copy>(alloc: A) -> Result<Vec<Latest, A>, AllocErro
         latest.push(none())?;
     }
     Ok(latest)
+}
+
+/// Whether the focus is settled after a message: its client fares so, and it may have touched
+/// windows.
+fn is_still(fed: Fed, touches_windows: bool) -> bool
+    ensures still { result ≡ true → (fed ≡ Fed.Alive) × (touches_windows ≡ false) }
+    ensures other { result ≡ false → fed ≡ Fed.Alive → touches_windows ≡ true }
+{
+    match fed {
+        Fed::Alive => !touches_windows,
+        Fed::NoClient | Fed::Ended(_) => false,
+    }
 }
 
 /// How a client's message fared, by how the client fares then. A client that ran out of memory is

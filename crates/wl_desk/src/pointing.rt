@@ -15,13 +15,12 @@ ghost use Rattle.spec_desktop.specs.Replies.{entered_at, focus_window};
 ghost use Rattle.spec_desktop.specs.Settling.{AppliesAll, Midstep, Settles, Strike, Tells, ended_by, leave_drawn, noted_if, number_of, told_drawn};
 ghost use Rattle.spec_desktop.specs.Stacked.{all_windows};
 ghost use Rattle.wl_scene.specs.Hit.{IsStackedOrNone};
-ghost use Rattle.law_desktop.specs.Focus.{IsSettled};
 ghost use Rattle.wl_clients.specs.Agreement.{numbers_in};
 ghost use Rattle.wl_clients.specs.Marking.{MarksThrough};
 ghost use Rattle.wl_clients.specs.Feeding.{rest_in};
 ghost use Rattle.wl_clients.specs.Midway.{first_struck};
 ghost use Rattle.wl_desk.specs.Doing.{IsTellable, is_told};
-ghost use Rattle.wl_desk.specs.Midway.{IsMidway, IsOfFocus, IsTelling, IsToldOf};
+ghost use Rattle.wl_desk.specs.Midway.{IsAmid, IsMidway, IsOfFocus, IsTelling, IsToldOf};
 ghost use Rattle.wl_desk.specs.Points.{point_told};
 ghost use Rattle.wl_desk.specs.Serials.{AreNoted, KeepsSerials, noted_by};
 ghost use Rattle.wl_desk.specs.View.{latest_of, seat_of};
@@ -121,28 +120,8 @@ impl<A: Allocator + Copy> Desk<A> {
         self.tell(target.client, PointerEvent::Enter { surface, x, y });
     }
 
-    /// Tells only a new wl_pointer of the focused client that the surface is entered. The answer is
-    /// false if a client is to end then, as when that wasn't queued.
-    pub(crate) fn enter_new(&mut self, target: Target, pointer: u32) -> bool
-        ensures tells { (m : Midstep) → IsTelling self.old.desk m → is_stacked (target_of target) (all_windows m.desktop) ≡ true
-            → m.desktop.pointer.place ≢ None
-            → (n : Midstep) × Tells (drawing true) (λ r. entered_at pointer r.peer.serial m.desktop.pointer.place
-            (focus_window (Some (target_of target)) (all_windows m.desktop))) target.client m n × IsTelling self.new.desk n }
-        ensures nobody { result ≡ true → (n : Midstep) → IsTelling self.new.desk n → n.struck ≡ [] }
-        ensures refused { result ≡ false → (n : Midstep) → IsTelling self.new.desk n → n.struck ≢ [] }
-        ensures pointer { self.new.desk.pointer ≡ self.old.desk.pointer }
-        ensures seats { self.new.desk.seats ≡ self.old.desk.seats }
-        ensures latest { self.new.desk.latest ≡ self.old.desk.latest }
-        ensures damage { self.new.damage ≡ self.old.damage }
-        ensures rests { (c : ℕ) → length (rest_in c self.new.desk.kept) ≤ length (rest_in c self.old.desk.kept) }
-        ensures output { self.new.desk.kept.output ≡ self.old.desk.kept.output }
-    {
-        self.enter_alone(target, pointer);
-        self.struck().is_none()
-    }
-
     /// Tells only a new wl_pointer that the surface is entered.
-    fn enter_alone(&mut self, target: Target, pointer: u32)
+    pub(crate) fn enter_alone(&mut self, target: Target, pointer: u32)
         ensures tells { (m : Midstep) → IsTelling self.old.desk m → is_stacked (target_of target) (all_windows m.desktop) ≡ true
             → m.desktop.pointer.place ≢ None
             → (n : Midstep) × Tells (drawing true) (λ r. entered_at pointer r.peer.serial m.desktop.pointer.place
@@ -327,7 +306,22 @@ impl<A: Allocator + Copy> Desk<A> {
     /// Settles the focus once: if it moves, the old surface is left, and the one that the pointer
     /// hits is entered. Nothing is marked. If a client can't be told, it is to end (see
     /// [`Desk::struck`]), and the focus is to be settled again.
+    ///
+    /// Nothing is done if the focus is known to be settled.
     pub fn settle(&mut self)
+        ensures settles { (m : Midstep) → IsAmid self.old m → (n : Midstep) × Settles m n × IsMidway self.new.desk n }
+        ensures damage { self.new.damage ≡ self.old.damage }
+        ensures rests { (c : ℕ) → length (rest_in c self.new.desk.kept) ≤ length (rest_in c self.old.desk.kept) }
+        ensures output { self.new.desk.kept.output ≡ self.old.desk.kept.output }
+    {
+        if self.is_settled {
+            return;
+        }
+        self.settle_now();
+    }
+
+    /// Settles the focus once, whatever is known of it.
+    pub(crate) fn settle_now(&mut self)
         ensures settles { (m : Midstep) → IsMidway self.old.desk m → (n : Midstep) × Settles m n × IsMidway self.new.desk n }
         ensures damage { self.new.damage ≡ self.old.damage }
         ensures rests { (c : ℕ) → length (rest_in c self.new.desk.kept) ≤ length (rest_in c self.old.desk.kept) }
@@ -336,22 +330,6 @@ impl<A: Allocator + Copy> Desk<A> {
         let (hit, is_stacked) = self.seen();
         let actions = self.pointer.settle(hit, is_stacked);
         self.apply_all(&actions);
-    }
-
-    /// Settles the focus once after a message. If the client lives on and no windows were touched,
-    /// it is settled already, and nothing is done.
-    pub(crate) fn settle_after(&mut self, lives: bool, touches_windows: bool)
-        ensures settles { (m : Midstep) → IsMidway self.old.desk m → (lives ≡ true → touches_windows ≡ false → IsSettled m.desktop)
-            → (n : Midstep) × Settles m n × IsMidway self.new.desk n }
-        ensures damage { self.new.damage ≡ self.old.damage }
-        ensures sides { IsAsLarge self.old.damage self.new.damage }
-        ensures rests { (c : ℕ) → length (rest_in c self.new.desk.kept) ≤ length (rest_in c self.old.desk.kept) }
-        ensures output { self.new.desk.kept.output ≡ self.old.desk.kept.output }
-    {
-        if lives && !touches_windows {
-            return;
-        }
-        self.settle();
     }
 
     /// The least number of a client that is to end, since an event for it wasn't queued. There are
@@ -368,7 +346,7 @@ impl<A: Allocator + Copy> Desk<A> {
     /// settled then.
     pub fn end_struck(&mut self, client: ClientNo)
         ensures ends { (s : Strike) (ss : List Strike) (m : Midstep) → s.client ≡ client → m.struck ≡ s ∷ ss → IsMidway self.old.desk m
-            → IsMidway self.new.desk (record { desktop = ended_by s m.desktop; struck = ss }) }
+            → IsAmid self.new (record { desktop = ended_by s m.desktop; struck = ss }) }
         ensures marks { (s : Strike) (ss : List Strike) (m : Midstep) → s.client ≡ client → m.struck ≡ s ∷ ss → IsMidway self.old.desk m
             → MarksThrough m.desktop (ended_by s m.desktop ∷ []) self.old.damage self.new.damage }
         ensures sides { IsAsLarge self.old.damage self.new.damage }
@@ -377,5 +355,6 @@ impl<A: Allocator + Copy> Desk<A> {
     {
         self.clients.end_refused(client);
         self.pointer.forget(client);
+        self.is_settled = false;
     }
 }

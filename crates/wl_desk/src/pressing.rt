@@ -76,7 +76,7 @@ impl<A: Allocator + Copy> Desk<A> {
         self.raise(toplevel);
         self.release_grabs(released_by(holder, toplevel));
         self.apply_all(&actions);
-        self.settle();
+        self.settle_now();
     }
 
     /// A button is released.
@@ -90,7 +90,7 @@ impl<A: Allocator + Copy> Desk<A> {
         }
         let actions = self.pointer.release(time, button);
         self.apply_all(&actions);
-        self.settle();
+        self.settle_now();
     }
 
     /// The toplevel under the pointer: the one that the window is stacked with which it hits, if it

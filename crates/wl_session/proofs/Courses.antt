@@ -38,7 +38,7 @@ use Rattle.wl_session.proofs.Stays.{stays_right}
 
 -- what of a session its desk has
 abbrev pub marked : SessionView → MarkedDesk
-marked v = record { desk = v.desk; damage = v.damage }
+marked v = record { desk = v.desk; damage = v.damage; settled = false }
 
 -- ---- what is so of each desktop that a desk agrees with
 
@@ -129,7 +129,7 @@ starved-course client piece done old new before d same frame sides a led happens
 
 -- A frame: what was to be painted was handed over, and nothing was to be painted then.
 pub tick-course : (time : ℕ) (old new : SessionView) (none : Damaged) → ((x y : ℕ) → has none x y ≡ false) → HasItsSides old.damage none → HasItsSides none new.damage
-    → LeadsQuietly (Single (Tick time) gave.Tick) (record { desk = old.desk; damage = none }) (marked new)
+    → LeadsQuietly (Single (Tick time) gave.Tick) (record { desk = old.desk; damage = none; settled = false }) (marked new)
     → ((d : Desktop) → Agrees old.desk d → IsNextFrame d old.frame new.frame (has old.damage)) → TakesCourse (Tick time) gave.Tick old new
 tick-course time old new none bare sides more leads next = λ d a.
     let quietly = leads d a in

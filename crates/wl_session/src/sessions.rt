@@ -16,7 +16,7 @@ ghost use Rattle.wl_session.specs.Step.{act_of};
 ghost use Rattle.wl_desk.specs.Agreeing.{Agrees, TakesStep};
 ghost use Rattle.wl_session.specs.Course.{Took};
 
-use crate::settling::{end_all, settle_all};
+use crate::settling::{end_all, end_each, settle_all};
 use crate::shots::{Frame, Run, Shot};
 use crate::steps::{RunError, Step};
 use std::alloc::{AllocError, Allocator};
@@ -115,7 +115,8 @@ impl<A: Allocator + Copy> Session<A> {
         ensures frame { self.new.frame ≡ self.old.frame }
     {
         while self.desk.serve(client) != Served::More {
-            end_all(&mut self.desk);
+            end_each(&mut self.desk);
+            settle_all(&mut self.desk);
         }
     }
 
@@ -212,6 +213,7 @@ impl<A: Allocator + Copy> Session<A> {
         self.desk.paint(&mut self.framebuffer);
         self.desk.take_damage(&mut self.painted);
         self.desk.frames(time);
+        end_each(&mut self.desk);
         settle_all(&mut self.desk);
         self.frame(time)
     }

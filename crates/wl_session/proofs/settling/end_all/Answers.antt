@@ -13,4 +13,4 @@ pub returns-in_default-clause-rests : goal.returns-in_default-clause-rests
 returns-in_default-clause-rests g c = left-all c.args.desk.now.desk.kept
 
 pub returns-clause-ends : goal.returns-clause-ends
-returns-clause-ends g c = λ m midway settled. c.settle_all.ensures.settles m midway
+returns-clause-ends g c = λ m midway settled. c.settle_all.ensures.settles m (record { midway = midway; known = λ yes. settled })

@@ -9,7 +9,7 @@ use Rattle.wl_desk.proofs.desks.Desk.follow.Goals as goal
 
 pub returns-in-Ended-clause-follows : goal.returns-in-Ended-clause-follows
 returns-in-Ended-clause-follows g c =
-    left-whole c.args.client c.args.request c.self.inside.clients (map (λ s. s.items) c.self.inside.seats.items) c.self.inside.latest.items c.self.inside.pointer c.forget.new.self c.args.self.now c.let_go.new.self c.self.view_is
+    left-whole c.args.client c.args.request c.self.inside.clients (map (λ s. s.items) c.self.inside.seats.items) c.self.inside.latest.items c.self.inside.pointer c.forget.new.self _ c.args.self.now c.let_go.new.self c.self.view_is
     c.status.result c.in-Ended.field-0 c.status.ensures c.in-Ended.is c.forget.ensures
     (record { pointer = c.let_go.ensures.pointer; kept = c.let_go.ensures.kept; seats = c.let_go.ensures.seats; latest = c.let_go.ensures.latest; damage = c.let_go.ensures.damage })
     (target_or_none c.args.toplevel)
@@ -20,7 +20,7 @@ returns-in_default-request g c =
     let kept = go.kept ∙ c.begin_move.ensures.kept in
     record {
       follows = unasked-whole c.args.client c.args.request (target_or_none c.args.toplevel) c.args.self.now c.begin_move.new.self c.let_go-in_default-request.new.self c.status.result
-          (status-at c.args.client c.self.inside.clients _ _ c.self.inside.pointer c.args.self.now c.status.result c.self.view_is c.status.ensures) c.in_default.not-Ended
+          (status-at c.args.client c.self.inside.clients _ _ c.self.inside.pointer _ c.args.self.now c.status.result c.self.view_is c.status.ensures) c.in_default.not-Ended
           c.in_default-request.not-NewPointer c.begin_move.ensures.pointer c.begin_move.ensures.kept c.begin_move.ensures.seats c.begin_move.ensures.latest c.begin_move.ensures.damage
           (record { pointer = go.pointer; kept = go.kept; seats = go.seats; latest = go.latest; damage = go.damage });
       sides = subst (λ (w : Damaged). IsAsLarge c.args.self.now.damage w) (sym (go.damage ∙ c.begin_move.ensures.damage)) (record { width = refl; height = refl });
@@ -30,8 +30,8 @@ returns-in_default-request g c =
 
 pub returns : goal.returns
 returns g c = record {
-  follows = asked-whole c.args.client c.in-NewPointer.id c.tell_new.result c.args.request c.args.self.now c.tell_new.new.self c.status.result
-      (status-at c.args.client c.self.inside.clients _ _ c.self.inside.pointer c.args.self.now c.status.result c.self.view_is c.status.ensures) c.in_default.not-Ended
+  follows = asked-whole c.args.client c.in-NewPointer.id c.args.request c.args.self.now c.tell_new.new.self c.status.result
+      (status-at c.args.client c.self.inside.clients _ _ c.self.inside.pointer _ c.args.self.now c.status.result c.self.view_is c.status.ensures) c.in_default.not-Ended
       c.in-NewPointer.is c.tell_new.ensures.tells (target_or_none c.args.toplevel);
   sides = c.tell_new.ensures.sides;
   rests = c.tell_new.ensures.rests;

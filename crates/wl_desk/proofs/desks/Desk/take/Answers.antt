@@ -8,7 +8,7 @@ use Rattle.wl_desk.proofs.desks.Desk.take.Goals as goal
 pub returns-in_default-clause-more : goal.returns-in_default-clause-more
 returns-in_default-clause-more g c =
     let back = written c.self.inside.seats c.make_room-has_room.new.seats c.deref_mut.result.now c.make_room-has_room.auto.seats c.deref_mut.ensures.value in
-    rested-whole c.args.client c.self.inside.clients c.take.new.self _ _ c.self.inside.latest.items c.self.inside.pointer c.args.self.now c.self.view_is
+    rested-whole c.args.client c.self.inside.clients c.take.new.self _ _ c.self.inside.latest.items c.self.inside.pointer _ c.args.self.now c.self.view_is
     (ap (map (λ s. s.items)) back ∙ c.make_room-has_room.ensures.same ∙ ap (map (λ s. s.items)) c.deref_mut.ensures.value) c.in_default.ensures.more
 
 pub returns-clause-took : goal.returns-clause-took
@@ -17,7 +17,7 @@ returns-clause-took g c =
     let put = written (with_items c.self.inside.seats c.make_room-has_room.new.seats) c.keep_asked.new.seats c.deref_mut-2.result.now c.keep_asked.auto.seats c.deref_mut-2.ensures.value in
     let same = c.make_room-has_room.ensures.same ∙ ap (map (λ s. s.items)) c.deref_mut.ensures.value in
     let said = c.in-Some.ensures in
-    took-whole c.args.client c.in-Some.taken.pointer c.make_room-has_room.result c.self.inside.clients c.take.new.self _ _ c.self.inside.latest.items c.self.inside.pointer c.args.self.now c.self.view_is
+    took-whole c.args.client c.in-Some.taken.pointer c.make_room-has_room.result c.self.inside.clients c.take.new.self _ _ c.self.inside.latest.items c.self.inside.pointer _ c.args.self.now c.self.view_is
     (ap (map (λ s. s.items)) put ∙ c.keep_asked.ensures
     ∙ ap (λ (seats : List (List ℕ)). seats_after c.make_room-has_room.result c.in-Some.taken.pointer c.args.client seats)
     (ap (map (λ s. s.items)) (c.deref_mut-2.ensures.value ∙ back) ∙ same))
@@ -27,4 +27,4 @@ returns-clause-took g c =
 
 pub returns-clause-untouched : goal.returns-clause-untouched
 returns-clause-untouched g c = λ none.
-    untouched-whole c.args.client c.self.inside.clients _ _ c.self.inside.pointer c.args.self.now c.self.view_is (c.in-Some.ensures.untouched none)
+    untouched-whole c.args.client c.self.inside.clients _ _ c.self.inside.pointer _ c.args.self.now c.self.view_is (c.in-Some.ensures.untouched none)

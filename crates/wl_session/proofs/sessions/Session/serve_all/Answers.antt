@@ -4,6 +4,7 @@ use Rattle.wl_client.specs.declared.outputs.Output.{Output}
 use Rattle.wl_paint.specs.Damage.{Damaged}
 use Rattle.wl_paint.specs.Frame.{Image}
 use Rattle.wl_desk.proofs.Calls.{large-on}
+use Rattle.wl_desk.proofs.Rests.{left-on}
 use Rattle.wl_session.proofs.Courses.{served-more, served-none, took-then}
 use Rattle.wl_session.proofs.sessions.Session.serve_all.Goals as goal
 
@@ -13,9 +14,10 @@ loop-self-preserved g c =
     record {
       taken = λ d a.
           let m = c.loop-self.invariant.taken d a in
-          served-more c.args.client _ _ _ d m refl (large-on _ _ _ c.serve.ensures.sides c.end_all.ensures.sides) (c.serve.ensures.leads other _ c.end_all.ensures.ends m.desktop m.agrees);
+          served-more c.args.client _ _ _ d m refl (large-on _ _ _ (large-on _ _ _ c.serve.ensures.sides c.end_each.ensures.sides) c.settle_all.ensures.sides)
+          (c.serve.ensures.leads other _ _ c.end_each.ensures.ends c.settle_all.ensures.settles m.desktop m.agrees);
       frame = c.loop-self.invariant.frame;
-      output = c.end_all.ensures.output ∙ c.serve.ensures.output ∙ c.loop-self.invariant.output;
+      output = c.settle_all.ensures.output ∙ c.end_each.ensures.output ∙ c.serve.ensures.output ∙ c.loop-self.invariant.output;
       painted = c.loop-self.invariant.painted;
     }
 
@@ -25,7 +27,7 @@ less-on k m n below above = omega (arith, below, above)
 pub loop-self-smaller : goal.loop-self-smaller
 loop-self-smaller g c =
     let other : c.serve.result ≢ served.More = search rules in
-    less-on _ _ _ (c.end_all.ensures.rests c.args.client) (c.serve.ensures.less other)
+    less-on _ _ _ (left-on _ _ _ c.end_each.ensures.rests c.settle_all.ensures.rests c.args.client) (c.serve.ensures.less other)
 
 pub loop-self-init : goal.loop-self-init
 loop-self-init g c = record { taken = λ d a. rw (← c.self.view_is) (served-none c.args.client _ d (rw (← c.self.view_is) at a)); frame = refl; output = refl; painted = refl }

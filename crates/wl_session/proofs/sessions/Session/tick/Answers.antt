@@ -15,7 +15,7 @@ use Rattle.wl_session.proofs.sessions.Session.tick.Goals as goal
 
 pub invariant_of-self : goal.invariant_of-self
 invariant_of-self g c =
-    let same = sym (c.settle_all.ensures.output ∙ c.frames.ensures.output ∙ ap (λ (v : DeskView). v.kept.output) c.take_damage.ensures.desk) in (
+    let same = sym (c.settle_all.ensures.output ∙ c.end_each.ensures.output ∙ c.frames.ensures.output ∙ ap (λ (v : DeskView). v.kept.output) c.take_damage.ensures.desk) in (
       c.paint.ensures.width ∙ (c.self.invariant.0 ∙ ap (λ (o : Output). o.width) same),
       c.paint.ensures.height ∙ (c.self.invariant.1 ∙ ap (λ (o : Output). o.height) same),
       c.take_damage.ensures.width ∙ ap (λ (o : Output). o.width) same,
@@ -30,7 +30,7 @@ returns g c =
       painted = λ x y w h here opaque. c.paint.ensures.painted d a x y w h (sym (ap (λ (m : Damaged). has m x y) c.take_damage.ensures.taken) ∙ here) opaque;
       kept = λ x y w h none. c.paint.ensures.kept x y w h (sym (ap (λ (m : Damaged). has m x y) c.take_damage.ensures.taken) ∙ none);
     }) in
-    let quietly = c.frames.ensures.leads _ c.settle_all.ensures.settles in
+    let quietly = c.frames.ensures.leads _ _ c.end_each.ensures.ends c.settle_all.ensures.settles in
     let leads = rw c.take_damage.ensures.desk at quietly in
     let course : TakesCourse (Tick c.args.time) gave.Tick c.args.self.now (record {
       desk = c.settle_all.new.desk.desk;
@@ -38,7 +38,7 @@ returns g c =
       frame = c.paint.new.framebuffer;
       painted = c.take_damage.new.painted;
     }) =
-    rw (← c.self.view_is) (tick-course c.args.time _ _ c.take_damage.new.self.damage c.take_damage.ensures.none c.take_damage.ensures.sides (large-on _ _ _ c.frames.ensures.sides c.settle_all.ensures.sides) leads
+    rw (← c.self.view_is) (tick-course c.args.time _ _ c.take_damage.new.self.damage c.take_damage.ensures.none c.take_damage.ensures.sides (large-on _ _ _ (large-on _ _ _ c.frames.ensures.sides c.end_each.ensures.sides) c.settle_all.ensures.sides) leads
     (λ d a. record {
       large = record { width = c.paint.ensures.width; height = c.paint.ensures.height; background = c.paint.ensures.background };
       painted = λ x y w h here opaque. c.paint.ensures.painted d a x y w h here opaque;
