@@ -9,6 +9,7 @@ pub mod EachEnd
 pub mod Framing
 pub mod Grabbing
 pub mod Holders
+pub mod HitsStay
 pub mod Kept
 pub mod Leading
 pub mod Lending
@@ -34,5 +35,4 @@ pub mod Still
 pub mod Strikes
 pub mod Telling
 pub mod Told
-pub mod Untouched
 pub mod Viewed

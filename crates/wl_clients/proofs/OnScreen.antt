@@ -12,7 +12,9 @@ pub mod Finding
 pub mod Fitting
 pub mod Given
 pub mod Gone
+pub mod Hits
 pub mod Holding
+pub mod Inputs
 pub mod Least
 pub mod Leaving
 pub mod Lengths

@@ -179,17 +179,18 @@ IsToldOn c toplevel v standing s is =
 -- where those of each tree stand together.
 pub record IsFollowed {A : Type 0} (c : ℕ) (toplevel : Option ℕ) (v : Kept A) (stacking : Stacking) (applied : Option (Applied A))
     (old new : Screen A) : Type 0 where
-  pub is : List TreeWindow
-  pub told : IsToldOn c toplevel v new.scene.standing old is
+  pub told : IsToldOn c toplevel v new.scene.standing old new.spare.is.items
   pub scene : HasPlace stacking old.scene (vec_capacity old.spare.toplevels) → IsRestacked c stacking old.scene new.scene
   pub windows :
-      FitIf toplevel stacking (length is) old.stacked.room
-      → new.stacked.windows ≡ restacked_if c toplevel stacking is old.stacked.windows
+      FitIf toplevel stacking (length new.spare.is.items) old.stacked.room
+      → new.stacked.windows ≡ restacked_if c toplevel stacking new.spare.is.items old.stacked.windows
   pub points :
-      AreToldIf toplevel stacking old.spare.was.items is
+      AreToldIf toplevel stacking old.spare.was.items new.spare.is.items
       → AddsPoints
-      (turned_if toplevel stacking (run_kept c toplevel old.stacked.windows) old.spare.was.items is (changes_in applied))
-      old.damage new.damage
+      (turned_if toplevel stacking (run_kept c toplevel old.stacked.windows) old.spare.was.items new.spare.is.items
+      (changes_in applied)) old.damage new.damage
+  -- those that were told before are kept
+  pub was : new.spare.was ≡ old.spare.was
 
 -- what is done to the stack where something was applied
 abbrev pub IsRestackedIf : {A : Type 0} → Option (Applied A) → ℕ → Stacking → Stack → Stack → ℕ → Type 0

@@ -15,7 +15,7 @@ ghost use Rattle.wl_scene.specs.Marking.{IsAsLarge};
 ghost use Rattle.wl_clients.specs.Framing.{MarksIfEnds, WasTold};
 ghost use Rattle.wl_clients.specs.Leading.{LeadsBy, LeadsQuietly, Led};
 ghost use Rattle.wl_clients.specs.Pointing.{AsksOfPointer, IsLatest};
-ghost use Rattle.wl_clients.specs.Touching.{ChangesNoWindow};
+ghost use Rattle.wl_clients.specs.Touching.{ChangesNoHit};
 ghost use Rattle.std.specs.Borrow.{sem};
 ghost use Rattle.wl_clients.specs.Residents.{lends_resident, resident_at};
 ghost use Rattle.law_desktop.specs.Pointed.Pointed.{asked};
@@ -149,8 +149,9 @@ impl<A: Allocator + Copy> Clients<A> {
 
     /// Takes the first whole message of a living client. `None` if there is none; then nothing
     /// changes. What the message changes is marked; if the client ends by it, its windows are. If
-    /// the answer doesn't say that it touches windows, and the client lives on, all windows stay as
-    /// they are.
+    /// the answer doesn't say that it changes hits, and the client lives on, each point hits what it
+    /// hit. The usual commit changes none: the windows are as large as before, stand where they
+    /// stood, and take input where they did.
     ///
     /// Without a seat for a new wl_pointer, a client that asks for one ends as out of memory.
     /// `latest` has the serials that the client was told, by which a grab is allowed.
@@ -161,7 +162,8 @@ impl<A: Allocator + Copy> Clients<A> {
             → AsksOfPointer (numbers_in self.old.desk.clients client) (asked client d) taken.pointer) }
         ensures seat { IfSome result (λ taken. (id : ℕ) → taken.pointer ≡ PointerAsked.NewPointer id → has_seat ≡ false
             → (e : Desktop) → Agrees self.new.desk e → is_some (status_in client e) ≡ true) }
-        ensures untouched { IfSome result (λ taken. taken.touches_windows ≡ false → (d : Desktop) → Agrees self.old.desk d → ChangesNoWindow client d) }
+        ensures hits { IfSome result (λ taken. taken.changes_hits ≡ false → (d : Desktop) → Agrees self.old.desk d → IsLatest latest (client_at client d)
+            → ChangesNoHit client self.new.desk d) }
         ensures more { IfNone result ((d : Desktop) → Agrees self.old.desk d → Agrees self.new.desk d × IsIdleIn client d) }
         ensures rests { IfNone result (self.new.damage ≡ self.old.damage) }
         ensures sides { IsAsLarge self.old.damage self.new.damage }

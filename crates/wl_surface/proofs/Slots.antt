@@ -8,8 +8,10 @@ use Rattle.std.proofs.lemmas.List.{get_or-set_other, get_or-set_same}
 use Rattle.std.proofs.lemmas.List.Sums.{sum_by-set}
 use Rattle.std.specs.Option.{option_map}
 use Rattle.wl_surface.specs.Surface.{Surface}
-use Rattle.wl_surface.specs.Kept.{kept_has, kept_shows, Kept, StandsFor}
-use Rattle.wl_surface.specs.Slots.{Changes, one_if_kept, IsAny, has_at, shows_at, with_at, Numbered, StandsAt, place_at}
+use Rattle.wl_geom.specs.Region.{Area, Change}
+use Rattle.wl_surface.specs.Kept.{IsInput, has_new_input, kept_has, kept_shows, latest, Kept, StandsFor}
+use Rattle.wl_surface.specs.State.{applied, held, pending}
+use Rattle.wl_surface.specs.Slots.{Changes, HasInputApplied, one_if_kept, IsAny, has_at, shows_at, with_at, Numbered, StandsAt, place_at}
 use Rattle.wl_surface.specs.declared.frames.Waiting.{Waiting}
 
 abbrev Places : Type 0
@@ -159,3 +161,41 @@ shows-same b k s t = rw (t.history.current.buffer_is, t.history.held.buffer_is) 
 
 pub has-same : (b : ℕ) (k : Kept) (s : Surface) → StandsFor k s → kept_has b k ≡ has_at b (Some s)
 has-same b k s t = rw (t.history.pending.buffer_is, t.history.current.buffer_is, t.history.held.buffer_is) refl
+
+-- ---- input regions
+
+-- a region stands for one list of changes
+same-input : (area : Option Area) (a b : Option (List Change)) → IsInput area a → IsInput area b → a ≡ b
+same-input None None None p q = refl
+same-input (Some r) (Some xs) (Some ys) p q = ap Some (sym p.listed ∙ q.listed)
+same-input None None (Some ys) p q = absurd q
+same-input None (Some xs) b p q = absurd p
+same-input (Some r) None b p q = absurd p
+same-input (Some r) (Some xs) None p q = absurd q
+
+input-applied : (k : Kept) (s : Surface) → StandsFor k s → has_new_input k ≡ false → HasInputApplied (Some s)
+input-applied k s t none = by k.pending_input k.held_input refl refl none
+  where
+    by : (p h : Option (Option Area)) → k.pending_input ≡ p → k.held_input ≡ h → (is_some p || is_some h) ≡ false → HasInputApplied (Some s)
+    by (Some p) h pends holds none = absurd (cc)
+    by None (Some h) pends holds none = absurd (cc)
+    by None None pends holds none =
+        let now = t.history.current.input_is in
+        let last : IsInput (latest k.held_input k.current_input) (pending s.history).input =
+        subst (λ (o : Option (Option Area)). IsInput (latest o (latest k.held_input k.current_input)) (pending s.history).input) pends t.history.pending.input_is in (
+          same-input k.current_input (pending s.history).input (applied s.history).input
+              (subst (λ (o : Option (Option Area)). IsInput (latest o k.current_input) (pending s.history).input) holds last) now,
+          same-input k.current_input (held s.history).input (applied s.history).input
+              (subst (λ (o : Option (Option Area)). IsInput (latest o k.current_input) (held s.history).input) holds t.history.held.input_is) now,
+        )
+
+-- Where nothing is kept that isn't applied, each surface has its input region applied.
+pub none-new : (slots : Places) (all : Numbered) → Stand slots all → list_any (λ e. has_new_input e.1) (entries_from 0 slots) ≡ false
+    → (number : ℕ) → HasInputApplied (all number)
+none-new slots all stand none number = at (place_at slots number) (all number) (stand number) (none-from has_new_input 0 slots none number)
+  where
+    at : (slot : Option Kept) (o : Option Surface) → StandsAt slot o → ((k : Kept) → slot ≡ Some k → has_new_input k ≡ false) → HasInputApplied o
+    at None None s lacks = tt
+    at (Some k) None s lacks = tt
+    at None (Some t) s lacks = absurd s
+    at (Some k) (Some t) s lacks = input-applied k t s (lacks k refl)

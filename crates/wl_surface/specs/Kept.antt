@@ -1,6 +1,6 @@
 -- What is kept of a surface, and when it stands for what was asked.
 use Rattle.std.specs.Prelude.{ℕ, ℤ, ◌+ℤ◌, ◌≡◌, ◌≤◌, ◌/◌, ◌||◌, Bool, cond, Option, Some, None, List}
-use Rattle.std.specs.Prelude.{length, take, drop, option_copied}
+use Rattle.std.specs.Prelude.{is_some, length, take, drop, option_copied}
 use Rattle.std.specs.Option.{option_map}
 use Rattle.wl_geom.specs.declared.rect.Rect.{Rect}
 use Rattle.wl_geom.specs.Region.{Area, Change, Stands as Covers}
@@ -122,6 +122,10 @@ kept_shows buffer k = names buffer (option_map buffer_of k.current_buffer) || na
 
 abbrev pub kept_has : ℕ → Kept → Bool
 kept_has buffer k = names buffer (option_map buffer_of k.pending_buffer) || kept_shows buffer k
+
+-- an input region was set that isn't applied yet
+abbrev pub has_new_input : Kept → Bool
+has_new_input k = is_some k.pending_input || is_some k.held_input
 
 -- the size of a surface in its own points, by the transform itself
 abbrev pub turned_width : Option Buffer → Transform → ℕ → ℕ

@@ -1,6 +1,8 @@
 -- What is kept of the surfaces of a client, and when it stands for what was asked.
 use Rattle.std.specs.Prelude.{ℕ, ℤ, pos, int_le, ◌&&◌, ◌≡◌, ◌==◌, Bool, true, false, cond, Option, Some, None, List, []}
 use Rattle.std.specs.Prelude.{◌∷◌, count_by, is_some, slice_index_or}
+use Rattle.slab.specs.Slab.{entries_from}
+use Rattle.std.specs.List.{list_any}
 use Rattle.std.specs.Option.{option_map}
 use Rattle.wl_geom.specs.Region.{Area, Change, Stands as Covers}
 use Rattle.wl_surface.specs.declared.frames.Waiting.{Waiting}
@@ -110,6 +112,16 @@ shows_at buffer (Some s) = shows buffer s.history
 abbrev pub has_at : ℕ → Option Surface → Bool
 has_at buffer None = false
 has_at buffer (Some s) = has buffer s.history
+
+-- The input region that was set last is applied, if the surface is there.
+abbrev pub HasInputApplied : Option Surface → Type 0
+HasInputApplied None = Unit {0}
+HasInputApplied (Some s) =
+    ((pending s.history).input ≡ (applied s.history).input) × ((held s.history).input ≡ (applied s.history).input)
+
+-- something is kept that has the property
+abbrev pub any_kept : (Kept → Bool) → Slots → Bool
+any_kept property slots = list_any (λ e. property e.1) (entries_from 0 slots.places)
 
 -- The answer is whether some surface has the property.
 abbrev pub IsAny : (Option Surface → Bool) → Numbered → Bool → Type 0

@@ -3,7 +3,7 @@
 ghost use Rattle.std.specs.Prelude.{ℕ, ◌≡◌, ◌↔◌, ◌≢◌, ◌||◌, is_some, MatchBool, false, ◌++◌, ◌∷◌, [], Some, None, List, OnOk, OnErr, take};
 ghost use Rattle.std.specs.Option.{option_map, option_or};
 ghost use Rattle.wl_store.specs.Transform.{transform_of};
-ghost use Rattle.wl_surface.specs.Kept.{IsCurrent, IsFarther, StandsFor, buffer_of, counting_in, counting_of, kept_has, kept_shows, latest};
+ghost use Rattle.wl_surface.specs.Kept.{IsCurrent, IsFarther, StandsFor, buffer_of, counting_in, counting_of, has_new_input, kept_has, kept_shows, latest};
 ghost use Rattle.wl_geom.specs.Region.{Change as RegionChange, Stands as Covers};
 ghost use Rattle.wl_surface.specs.Request.{Attach, Commit, Damage, DamageBuffer, SetBufferScale, SetBufferTransform, SetInputRegion, SetOpaqueRegion};
 ghost use Rattle.wl_surface.specs.State.{SaysDamage, between, committed, held, is_whole, pending};
@@ -321,6 +321,13 @@ impl<A: Allocator> SurfaceState<A> {
         ensures { result ≡ kept_has buffer self.now }
     {
         is_buffer(buffer, &self.pending_buffer) || self.shows(buffer)
+    }
+
+    /// Whether an input region was set that isn't applied yet.
+    pub fn has_new_input(&self) -> bool
+        ensures { result ≡ has_new_input self.now }
+    {
+        self.pending_input.is_some() || self.held_input.is_some()
     }
 
     /// The applied state.

@@ -6,8 +6,8 @@ ghost use Rattle.std.specs.Option.{option_map};
 ghost use Rattle.slab.specs.Slab.{entries};
 ghost use Rattle.wl_geom.specs.Region.{Change as RegionChange, Stands as Covers};
 ghost use Rattle.wl_surface.specs.Applied.{AreApplied};
-ghost use Rattle.wl_surface.specs.Kept.{buffer_of, counting_in, counting_of, kept_has, kept_shows};
-ghost use Rattle.wl_surface.specs.Slots.{Changes, IsAny, changed_at, IsCopied, IsCurrentAt, kept_at, one_if_kept, Numbered, StandForAll, content_at, count, had_at, has_at, is_scale, is_transform, is_whole_at, nobody, pending_at, role_at, shows_at, with_at};
+ghost use Rattle.wl_surface.specs.Kept.{buffer_of, counting_in, counting_of, has_new_input, kept_has, kept_shows};
+ghost use Rattle.wl_surface.specs.Slots.{Changes, HasInputApplied, IsAny, any_kept, changed_at, IsCopied, IsCurrentAt, kept_at, one_if_kept, Numbered, StandForAll, content_at, count, had_at, has_at, is_scale, is_transform, is_whole_at, nobody, pending_at, role_at, shows_at, with_at};
 ghost use Rattle.wl_surface.specs.Request.{Attach, Commit, Damage, DamageBuffer, Frame, SetBufferScale, SetBufferTransform, SetInputRegion, SetOpaqueRegion};
 ghost use Rattle.wl_surface.specs.Surface.{applying, asking, new_surface, with_role};
 ghost use Rattle.wl_surface.specs.Waiting.{AreUndue, AreWaiting, Callback, IsNewNumber, IsNextDue, applied_by, frames_at, held_by, is_in, callbacks_of as those_of, next_of, without_next, without_those_of};
@@ -65,6 +65,18 @@ fn any_has<A: Allocator>(slots: &Slab<SurfaceState<A>, A>, buffer: BufferNo) -> 
 {
     for (_, kept) in slots.iter() {
         if kept.has(buffer) {
+            return true;
+        }
+    }
+    false
+}
+
+/// Whether an input region of one of the surfaces was set that isn't applied yet.
+fn any_has_new_input<A: Allocator>(slots: &Slab<SurfaceState<A>, A>) -> bool
+    ensures { result ≡ list_any (λ e. has_new_input e.1) (entries slots.now) }
+{
+    for (_, kept) in slots.iter() {
+        if kept.has_new_input() {
             return true;
         }
     }
@@ -417,6 +429,15 @@ impl<A: Allocator> SurfaceStates<A> {
         ensures { (all : Numbered) → StandForAll self.now all → IsAny (has_at buffer) all result }
     {
         any_has(&self.slots, buffer)
+    }
+
+    /// Whether an input region of one of the surfaces was set that isn't applied yet (wayland.xml,
+    /// wl_surface.set_input_region). If not, no commit changes one that is applied.
+    pub fn has_new_input(&self) -> bool
+        ensures kept { result ≡ any_kept has_new_input self.now }
+        ensures applied { result ≡ false → (all : Numbered) → StandForAll self.now all → (number : ℕ) → HasInputApplied (all number) }
+    {
+        any_has_new_input(&self.slots)
     }
 
     /// The buffer that the next commit would show, if it has one.

@@ -31,19 +31,23 @@ use Rattle.wl_requests.specs.Residents.{IsResident, KeepsNumbers, TakesSo}
 use Rattle.wl_requests.specs.Touching.{Touch}
 use Rattle.wl_surface.specs.declared.applied.Applied.{Applied}
 use Rattle.law_desktop.specs.Done.{touched_by}
-use Rattle.law_desktop.specs.Messages.{IsDemanded}
+use Rattle.law_desktop.specs.Messages.{IsDemanded, MessageChanges}
+use Rattle.law_desktop.specs.StackedWith.{ChangesAt}
+use Rattle.law_desktop.proofs.RootsOf.Messages.{messages-change}
 use Rattle.wl_clients.specs.declared.screen.screens.Screen.{Screen}
 use Rattle.wl_clients.specs.Finding.{IsPlacedBy}
 use Rattle.wl_clients.specs.Laws.{MessageLaws}
 use Rattle.wl_clients.specs.Marking.{MarksAtLeast, MarksMost, MarksThrough}
 use Rattle.wl_clients.specs.Screens.{IsTouchedBy, IsTouchedIn, has_own}
 use Rattle.wl_clients.specs.Seats.{IsClearedBy, IsRestacked, IsSeated}
+use Rattle.wl_clients.specs.Touching.{HitsStay}
 use Rattle.wl_clients.specs.View.{pile_of}
 use Rattle.wl_clients.proofs.OnScreen.Apart.{settled-least, settled-most, settled-seated, settled-through}
 use Rattle.wl_clients.proofs.OnScreen.Assembling.{ways}
 use Rattle.wl_clients.proofs.OnScreen.Commits.{asked-touches, untouched-never}
 use Rattle.wl_clients.proofs.OnScreen.Ended.{Taken}
 use Rattle.wl_clients.proofs.OnScreen.Given.{TakesGiven, TakesGivenAs}
+use Rattle.wl_clients.proofs.OnScreen.Hits.{windows-stay}
 use Rattle.wl_clients.proofs.OnScreen.Living.{stays-apart}
 use Rattle.wl_clients.proofs.OnScreen.Numbers as seat
 use Rattle.wl_clients.proofs.OnScreen.Placing.{placed-so}
@@ -147,6 +151,12 @@ module _ {A : Type 0} (laws : MessageLaws) (c : ℕ) (others : ℕ → ById ℕ)
 
   keeps : mid.client.ended ≡ None → KeepsNumbers old.client.objects mid.client.objects
   keeps none = (left-of (split_of r.peer.rest) c r d old mid stacking answers).2.numbers none
+
+  -- each point hits what it hit
+  pub alone-hits : (e : Desktop) → Serves c d e → status_in c e ≡ None → HitsStay d e
+  alone-hits e serves status =
+      let m : MessageChanges c r d e = messages-change c r d e ordered.in_order before.mapped before.based.there serves status in
+      windows-stay d e (subst (λ (id : Option ℕ). ChangesAt id c d e) (untouched m.demand m.demanded) m.changes).windows
 
   pub alone-seated : (e : Desktop) × (q : Resident) × Serves c d e × IsSeated c others base left (pile_of new) e q
   alone-seated = settled-seated (ways laws) c others base d r old mid left was new before ordered alive untouched a.clears a.points a.same m keeps

@@ -14,13 +14,15 @@ use Rattle.wl_shell.specs.Agreement.{IsShell}
 use Rattle.spec_desktop.specs.Stacking.{Owned}
 use Rattle.spec_desktop.specs.Windows.{Owner}
 use Rattle.wl_surface.specs.State.{History}
-use Rattle.wl_surface.specs.Slots.{count}
+use Rattle.wl_clients.specs.StandIn.{HasInputApplied}
+use Rattle.wl_surface.specs.Slots.{Numbered, StandForAll, count}
 use Rattle.wl_surface.specs.declared.applied.Applied.{Applied}
 use Rattle.spec_desktop.specs.Desktop.{Desktop, Resident, client_at, owned_in, owned_of, status_of}
 use Rattle.spec_desktop.specs.Happens.{Serves}
 use Rattle.spec_desktop.specs.Marks.{in_output}
 use Rattle.spec_desktop.specs.Stacked.{all_windows}
 use Rattle.spec_desktop.specs.Through.{ServesThrough}
+use Rattle.wl_scene.specs.Repaint.{same_windows}
 use Rattle.wl_scene.specs.StackedAgreement.{AreStacked}
 use Rattle.law_desktop.specs.Shown.{ShownStand}
 use Rattle.law_desktop.specs.Renaming.{has_surface}
@@ -51,6 +53,7 @@ use Rattle.wl_clients.specs.Laws.{MessageLaws}
 use Rattle.wl_clients.specs.Marking.{MarksAtLeast, MarksMost, MarksThrough}
 use Rattle.wl_clients.specs.Screens.{AreToldIf, FitIf, HasPlace, HasRoom, IsFollowed, IsRunHeldIf, IsSameScreen, IsTouchedBy, changes_in, restacked_if, run_kept, run_on, turned_if}
 use Rattle.wl_clients.specs.Seats.{IsRestacked, IsSeated}
+use Rattle.wl_clients.specs.Touching.{HitsStay}
 use Rattle.wl_clients.specs.View.{Pile, owned_view, pile_of}
 use Rattle.wl_clients.proofs.OnScreen.After.{HoldsAs}
 use Rattle.wl_clients.proofs.OnScreen.Asked.{told-of}
@@ -58,6 +61,7 @@ use Rattle.wl_clients.proofs.OnScreen.Commits.{asked-touches, untouched-never}
 use Rattle.wl_clients.proofs.OnScreen.Ended.{Taken}
 use Rattle.wl_clients.proofs.OnScreen.Given.{HoldsGiven, TakesGiven, TakesGivenAs}
 use Rattle.wl_clients.proofs.OnScreen.Gone.{WayLaws}
+use Rattle.wl_clients.proofs.OnScreen.Inputs.{all-steady, done-takes}
 use Rattle.wl_clients.proofs.OnScreen.Holding.{OrderLaws, holds-now, names-agree}
 use Rattle.wl_clients.proofs.OnScreen.Lived.{led-seated, led-serves, led-through, shown-after, trees-after}
 use Rattle.wl_clients.proofs.OnScreen.Living.{some-applied, top-applied}
@@ -186,7 +190,7 @@ module _ {A : Type 0} (laws : MessageLaws) (c : ℕ) (others : ℕ → ById ℕ)
     m = (taken mid new settled).0
 
     filled : is_some applied ≡ true → (o : Owned) (owner : Owner) → IsRunHeldIf c mid found new.scene.standing o
-        → length (run_on c owner o found new.scene.standing) ≤ count old.owned.surfaces.states → f.is ≡ run_on c owner o found new.scene.standing
+        → length (run_on c owner o found new.scene.standing) ≤ count old.owned.surfaces.states → new.spare.is.items ≡ run_on c owner o found new.scene.standing
     filled some o owner held fits =
         f.told o owner held (fits-so _ _ _ _ (a.room some).run fits) ∙ ap (λ (ws : List TreeWindow). ws ++ run_on c owner o found new.scene.standing) a.empty
 
@@ -230,23 +234,34 @@ module _ {A : Type 0} (laws : MessageLaws) (c : ℕ) (others : ℕ → ById ℕ)
 
       -- ---- what is marked
 
-      points : AreToldIf found stacking ready.spare.was.items f.is
-          → AddsPoints (turned_if found stacking (run_kept c found was.stacked.windows) ready.spare.was.items f.is (changes_in applied)) was.damage new.damage
+      points : AreToldIf found stacking ready.spare.was.items new.spare.is.items
+          → AddsPoints (turned_if found stacking (run_kept c found was.stacked.windows) ready.spare.was.items new.spare.is.items (changes_in applied)) was.damage new.damage
       points told_so =
-          subst (λ (m : Damaged). AddsPoints (turned_if found stacking (run_kept c found was.stacked.windows) ready.spare.was.items f.is (changes_in applied)) m new.damage) a.same.damage
-          (subst (λ (ws : List Stacked). AddsPoints (turned_if found stacking (run_kept c found ws) ready.spare.was.items f.is (changes_in applied)) ready.damage new.damage) a.same.windows
+          subst (λ (m : Damaged). AddsPoints (turned_if found stacking (run_kept c found was.stacked.windows) ready.spare.was.items new.spare.is.items (changes_in applied)) m new.damage) a.same.damage
+          (subst (λ (ws : List Stacked). AddsPoints (turned_if found stacking (run_kept c found ws) ready.spare.was.items new.spare.is.items (changes_in applied)) ready.damage new.damage) a.same.windows
           (f.points told_so))
 
       pub lives-least : MarksAtLeast d e was.damage new.damage
       lives-least =
           serving.marks-least laws.between c others base d r old mid pile before trees owns message.demand message.peer e meant message.done after shown stacking stacks applied surface root told
-          a.root_is a.top (seat.named_by mid) (λ some. holds) agree found is-found new.scene (λ some. done) f.is filled ready.spare.was.items a.kept was.damage new.damage points
+          a.root_is a.top (seat.named_by mid) (λ some. holds) agree found is-found new.scene (λ some. done) new.spare.is.items filled ready.spare.was.items a.kept was.damage new.damage points
 
       pub lives-most : MarksMost d e was.damage new.damage
       lives-most =
           serving.marks-most laws.between c others base d r old mid pile before trees owns message.demand message.peer e meant message.done after shown stacking stacks applied surface root told
-          a.root_is a.top (seat.named_by mid) (λ some. holds) agree found is-found new.scene (λ some. done) f.is filled ready.spare.was.items a.kept was.damage new.damage points
+          a.root_is a.top (seat.named_by mid) (λ some. holds) agree found is-found new.scene (λ some. done) new.spare.is.items filled ready.spare.was.items a.kept was.damage new.damage points
           (λ x y wide high. within-output d.output.width d.output.height x y (subst (λ (n : ℕ). x < n) width wide) (subst (λ (n : ℕ). y < n) height high))
+
+      -- ---- what points hit
+
+      lives-hits : is_some applied ≡ true → same_windows ready.spare.was.items new.spare.is.items ≡ true
+          → ((all : Numbered) → StandForAll old.owned.surfaces.states all → (number : ℕ) → HasInputApplied (all number)) → HitsStay d e
+      lives-hits some same fresh =
+          serving.hits laws.between c others base d r old mid pile before trees owns message.demand message.peer e meant message.done after shown stacking stacks applied surface root told
+          a.root_is a.top (seat.named_by mid) (λ some. holds) agree found is-found new.scene (λ some. done) new.spare.is.items filled ready.spare.was.items a.kept was.damage new.damage points
+          some same
+          (done-takes c message.demand message.peer r d e told.id told.touches (seat.owned-here c others base d r old pile before) message.done.own
+          (all-steady (numbers old) old.owned.surfaces.states old.owned.surfaces.family r.owned.surfaces before.seat.owns.surfaces fresh))
 
       -- ---- the windows
 
@@ -271,15 +286,15 @@ module _ {A : Type 0} (laws : MessageLaws) (c : ℕ) (others : ℕ → ById ℕ)
       abbrev Run : Type 0
       Run = TurnsRun c (nums c) (seat.named_by old) told.list
           (serving.own_root laws.between c others base d r old mid pile before trees owns message.demand message.peer e meant message.done after shown stacking stacks applied surface root told
-          a.root_is a.top (seat.named_by mid) (λ some. holds) agree found is-found new.scene (λ some. done) f.is filled) found d e
+          a.root_is a.top (seat.named_by mid) (λ some. holds) agree found is-found new.scene (λ some. done) new.spare.is.items filled) found d e
 
-      fits : Run → FitIf found stacking (length f.is) ready.stacked.room
+      fits : Run → FitIf found stacking (length new.spare.is.items) ready.stacked.room
       fits t = at found stacking refl
         where
-          room : ((n : ℕ) → stacking ≡ on.Out n → ⊥) → length f.is ≤ ready.stacked.room
+          room : ((n : ℕ) → stacking ≡ on.Out n → ⊥) → length new.spare.is.items ≤ ready.stacked.room
           room never =
               serving.told-fit laws.between c others base d r old mid pile before trees owns message.demand message.peer e meant message.done after shown stacking stacks applied surface root told
-              a.root_is a.top (seat.named_by mid) (λ some. holds) agree found is-found new.scene (λ some. done) f.is filled ready.stacked.room (λ some. (a.room some).stack) never t
+              a.root_is a.top (seat.named_by mid) (λ some. holds) agree found is-found new.scene (λ some. done) new.spare.is.items filled ready.stacked.room (λ some. (a.room some).stack) never t
 
           stays-out : (n : ℕ) → on.Stays ≡ on.Out n → ⊥
           stays-out n e = absurd (cc)
@@ -287,36 +302,44 @@ module _ {A : Type 0} (laws : MessageLaws) (c : ℕ) (others : ℕ → ById ℕ)
           top-out : (k n : ℕ) → on.ToTop k ≡ on.Out n → ⊥
           top-out k n e = absurd (cc)
 
-          at : (o : Option ℕ) (x : Stacking) → stacking ≡ x → FitIf o x (length f.is) ready.stacked.room
+          at : (o : Option ℕ) (x : Stacking) → stacking ≡ x → FitIf o x (length new.spare.is.items) ready.stacked.room
           at None x is = tt
           at (Some k) (on.Out n) is = tt
           at (Some k) on.Stays is = room (λ n out. stays-out n (sym is ∙ out))
           at (Some k) (on.ToTop top) is = room (λ n out. top-out top n (sym is ∙ out))
 
-      windows-are : FitIf found stacking (length f.is) ready.stacked.room → new.stacked.windows ≡ restacked_if c found stacking f.is was.stacked.windows
-      windows-are fit = f.windows fit ∙ ap (λ (ws : List Stacked). restacked_if c found stacking f.is ws) a.same.windows
+      windows-are : FitIf found stacking (length new.spare.is.items) ready.stacked.room → new.stacked.windows ≡ restacked_if c found stacking new.spare.is.items was.stacked.windows
+      windows-are fit = f.windows fit ∙ ap (λ (ws : List Stacked). restacked_if c found stacking new.spare.is.items ws) a.same.windows
 
       lives-windows : AreStacked news new.stacked.windows (all_windows e)
       lives-windows =
           at
           (serving.turned laws.between c others base d r old mid pile before trees owns message.demand message.peer e meant message.done after shown stacking stacks applied surface root told
-          a.root_is a.top (seat.named_by mid) (λ some. holds) agree found is-found new.scene (λ some. done) f.is filled)
+          a.root_is a.top (seat.named_by mid) (λ some. holds) agree found is-found new.scene (λ some. done) new.spare.is.items filled)
         where
-          none-fits : found ≡ None → FitIf found stacking (length f.is) ready.stacked.room
-          none-fits none = subst (λ (o : Option ℕ). FitIf o stacking (length f.is) ready.stacked.room) (sym none) tt
+          none-fits : found ≡ None → FitIf found stacking (length new.spare.is.items) ready.stacked.room
+          none-fits none = subst (λ (o : Option ℕ). FitIf o stacking (length new.spare.is.items) ready.stacked.room) (sym none) tt
 
           at : ((found ≡ None) × ChangesNothing d e) ⊎ Run → AreStacked news new.stacked.windows (all_windows e)
           at (inl h) =
               subst (λ (ws : List Stacked). AreStacked news ws (all_windows e))
-              (sym (windows-are (none-fits h.0) ∙ ap (λ (o : Option ℕ). restacked_if c o stacking f.is was.stacked.windows) h.0))
+              (sym (windows-are (none-fits h.0) ∙ ap (λ (o : Option ℕ). restacked_if c o stacking new.spare.is.items was.stacked.windows) h.0))
               (renumbered-since nums news was.stacked.windows d e trees after h.1.stays.windows same before.windows)
           at (inr t) =
               subst (λ (ws : List Stacked). AreStacked news ws (all_windows e)) (sym (windows-are (fits t)))
-              (renumbered nums news (restacked_if c found stacking f.is was.stacked.windows) e after (λ n id is. same n id (had n id is) is)
+              (renumbered nums news (restacked_if c found stacking new.spare.is.items was.stacked.windows) e after (λ n id is. same n id (had n id is) is)
               (serving.run-restacked laws.between c others base d r old mid pile before trees owns message.demand message.peer e meant message.done after shown stacking stacks applied surface root
-              told a.root_is a.top (seat.named_by mid) (λ some. holds) agree found is-found new.scene (λ some. done) f.is filled t))
+              told a.root_is a.top (seat.named_by mid) (λ some. holds) agree found is-found new.scene (λ some. done) new.spare.is.items filled t))
 
     -- ---- what the clauses say
+
+    -- where the windows are told to be the same, and each surface has the input region applied that was set last
+    pub live-hits : is_some applied ≡ true → same_windows ready.spare.was.items new.spare.is.items ≡ true
+        → ((all : Numbered) → StandForAll old.owned.surfaces.states all → (number : ℕ) → HasInputApplied (all number))
+        → (e : Desktop) (q : Resident) → Serves c d e → client_at c e ≡ Some q → IsSeat mid.client (owned_view mid) q → HitsStay d e
+    live-hits some same fresh e q serves there seated =
+        lives-hits e q serves there seated (trees-after (ways laws) c others base d r old mid was new before ordered alive lives e serves)
+        (shown-after (ways laws) c others base d r old mid was new before ordered alive lives e serves) some same fresh
 
     pub live-least : (e : Desktop) (q : Resident) → Serves c d e → IsSeated c others base mid (pile_of new) e q → MarksAtLeast d e was.damage new.damage
     live-least e q serves after =

@@ -268,6 +268,13 @@ module _ {A : Type 0} (c t : ℕ) (d e : Desktop) (step : ChangesToplevel c t d 
   good-is =
       good step.is (each-second (λ w. (c == w.owner.client) ≡ true) step.was step.is owned) (each-second (λ w. nat_lt w.transform 8 ≡ true) step.was step.is numbered) there-is
 
+  -- windows that are told to be the same are
+  pub run-same : same_windows (map (told_by f) step.was) (map (told_by f) step.is) ≡ true → AreSame step.was step.is
+  run-same = all-same-told c all f told.apart step.was step.is good-was good-is
+
+  pub run-owned : Each (λ w. (c == w.owner.client) ≡ true) step.was
+  run-owned = each-first (λ w. (c == w.owner.client) ≡ true) step.was step.is owned
+
   told-is : Each (IsAppliedByName f changes applied) step.is
   told-is = all-each (IsAppliedByName f changes applied) step.is (run-is-told A c t d e step f changes told.tells)
 

@@ -30,7 +30,7 @@ use Rattle.law_desktop.specs.TreeStepsLaws.{IsRootOf}
 use Rattle.law_desktop.specs.Ordered.{OwnsOrdered}
 use Rattle.law_desktop.proofs.Keeping.OwningTies.{number-of-name}
 use Rattle.law_desktop.proofs.Truth.{differ}
-use Rattle.wl_scene.specs.Repaint.{AreTogether, window_has}
+use Rattle.wl_scene.specs.Repaint.{AreTogether, same_windows, window_has}
 use Rattle.wl_scene.specs.Kept.{Stack}
 use Rattle.spec_desktop.specs.Stacking.{Owned, Standing}
 use Rattle.spec_desktop.specs.Windows.{Owner}
@@ -61,9 +61,12 @@ use Rattle.wl_clients.specs.Marking.{MarksAtLeast, MarksMost}
 use Rattle.wl_clients.specs.Screens.{AreToldIf, IsRunHeldIf, changes_in, restacked_if, run_kept, run_on, turned_if}
 use Rattle.wl_clients.specs.Seats.{IsRestacked, IsSeated}
 use Rattle.wl_clients.specs.Staying.{marks_moved}
+use Rattle.wl_clients.specs.Touching.{HitsStay}
 use Rattle.wl_clients.specs.View.{Pile}
 use Rattle.wl_clients.proofs.OnScreen.After.{HoldsAs, run-fits, run-held, run-is}
-use Rattle.wl_clients.proofs.OnScreen.Least.{moved-least}
+use Rattle.wl_clients.proofs.OnScreen.Hits.{run-hits, windows-stay}
+use Rattle.wl_clients.proofs.OnScreen.Inputs.{TakeSame}
+use Rattle.wl_clients.proofs.OnScreen.Least.{moved-least, run-owned, run-same}
 use Rattle.wl_clients.proofs.OnScreen.Numbers as seat
 use Rattle.wl_clients.proofs.OnScreen.Restacking.{Moves, moves, out-empty, stack-turned, windows-restacked}
 use Rattle.wl_clients.proofs.OnScreen.Sitting.{numbers}
@@ -261,6 +264,17 @@ module _ {A : Type 0} (between : MarksByTreesBetween) (c : ℕ) (others : ℕ �
             (subst (λ (o : Owned). TellsTrees f told.list r.owned.surfaces o.surfaces) (sym did.own) told.tells);
       }
 
+      -- Where they are told to be the same, and take input where they did, each point hits what it hit.
+      pub same-hits : is_some applied ≡ true → same_windows was is ≡ true → TakeSame (owned_in d c).surfaces (owned_in e c).surfaces → HitsStay d e
+      same-hits some same takes =
+          run-hits c d e takes t.toplevel step (run-same c t.toplevel d e step f told.list run-told (pos 0) (pos 0) told-same)
+          (run-owned c t.toplevel d e step f told.list run-told (pos 0) (pos 0))
+        where
+          told-same : same_windows (map (told_by f) step.was) (map (told_by f) step.is) ≡ true
+          told-same =
+              subst (λ (ws : List TreeWindow). same_windows (map (told_by f) step.was) ws ≡ true) (is-told some)
+              (subst (λ (ws : List TreeWindow). same_windows ws is ≡ true) (kept some ∙ (ap (λ (o : Option ℕ). run_kept c o pile.windows) t.is_found ∙ kept-told)) same)
+
       -- What is marked is all that has to be.
       pub run-least : MarksAtLeast d e d0 d2
       run-least = at (is-out stacking)
@@ -316,6 +330,14 @@ module _ {A : Type 0} (between : MarksByTreesBetween) (c : ℕ) (others : ℕ �
         or-none : (b : Bool) → (b || false) ≡ b
         or-none true = refl
         or-none false = refl
+
+    -- Where the windows are told to be the same, and take input where they did, each point hits what it hit.
+    pub hits : is_some applied ≡ true → same_windows was is ≡ true → TakeSame (owned_in d c).surfaces (owned_in e c).surfaces → HitsStay d e
+    hits some same takes = at turned
+      where
+        at : Turns c (nums c) f told.list own_root found d e → HitsStay d e
+        at (inl h) = windows-stay d e h.1.stays.windows
+        at (inr t) = same-hits t was kept d0 d2 points some same takes
 
     -- What is marked is all that has to be.
     pub marks-least : MarksAtLeast d e d0 d2

@@ -2,21 +2,26 @@
 //! client may end, or go.
 
 ghost use Rattle.std.specs.Prelude.{ℕ, ◌≡◌, ◌<◌, ◌≤◌, ◌||◌, IfSome, List, None, Some, length, is_some, pos, true, false};
+ghost use Rattle.wl_scene.specs.Repaint.{same_windows};
+ghost use Rattle.wl_clients.specs.StandIn.{HasInputApplied};
+ghost use Rattle.wl_surface.specs.Slots.{Numbered, StandForAll};
 ghost use Rattle.wl_scene.specs.Marking.{IsAsLarge};
 ghost use Rattle.wl_clients.specs.Marking.{MarksAtLeast, MarksAtMost, MarksOwn, MarksOwnIf, MarksThrough};
 ghost use Rattle.spec_desktop.specs.Objects.{ById};
 ghost use Rattle.wl_store.specs.Stores.{write_refusal};
 ghost use Rattle.wl_client.specs.Agreement.{IsPeer};
 ghost use Rattle.spec_desktop.specs.Peer.{IsIdleAt, Peer, ended, stored_at};
-ghost use Rattle.spec_desktop.specs.Desktop.{Desktop, Resident as Plain, become};
+ghost use Rattle.spec_desktop.specs.Desktop.{Desktop, Resident as Plain, become, client_at};
 ghost use Rattle.wl_paint.specs.Damage.{has};
 ghost use Rattle.wl_requests.specs.Grabbing.{IsGrabbingOf};
 ghost use Rattle.wl_requests.specs.Messages.{IsAsked};
 ghost use Rattle.wl_requests.specs.PointerAsks.{MessageAsksPointer};
-ghost use Rattle.wl_clients.specs.Screens.{IsFollowed, IsParted, IsTouchedBy, has_own};
+ghost use Rattle.wl_clients.specs.Agreement.{IsSeat};
+ghost use Rattle.wl_clients.specs.Screens.{IsFollowed, IsParted, has_own};
+ghost use Rattle.wl_clients.specs.Touching.{HitsStay};
 ghost use Rattle.wl_clients.specs.Seats.{IsBare, IsChangedSo, IsClearedBy, IsSeated, ended_by, opened_kept};
 ghost use Rattle.wl_clients.specs.Finding.{IsPlacedBy};
-ghost use Rattle.wl_clients.specs.View.{Pile, pile_of};
+ghost use Rattle.wl_clients.specs.View.{Pile, owned_view, pile_of};
 ghost use Rattle.law_desktop.specs.Ordered.{Ordered};
 ghost use Rattle.spec_desktop.specs.Happens.{Serves};
 ghost use Rattle.spec_desktop.specs.Through.{ServesThrough};
@@ -24,6 +29,7 @@ ghost use Rattle.spec_desktop.specs.Act.{IsLeft, IsSent, IsStored, stored_of};
 
 use crate::screen::laws::message_laws;
 use crate::screen::screens::Screen;
+use crate::screen::staying::are_same;
 use crate::screen::touching::{find_toplevel, popup_to_place, root_of, touched_by};
 use spec_desktop::{ClientNo, Done, Stored};
 use std::alloc::Allocator;
@@ -35,11 +41,18 @@ use wl_shell::Shell;
 use wl_surface::{SurfaceNo, Surfaces};
 
 /// What a taken message asks of the pointer, unless it was refused, and whether it may have changed
-/// windows of a client that lives on.
+/// what points hit, where its client lives on.
 #[derive(Clone, Copy, Debug, PartialEq, Eq)]
 pub struct Taken {
     pub pointer: PointerAsked,
-    pub touches_windows: bool,
+    pub changes_hits: bool,
+}
+
+/// Whether an input region of one of the client's surfaces was set that isn't applied yet.
+fn has_new_input<A: Allocator>(resident: &Resident<A>) -> bool
+    ensures { result ≡ false → (all : Numbered) → StandForAll resident.now.owned.surfaces.states all → (number : ℕ) → HasInputApplied (all number) }
+{
+    resident.owned.surfaces.states().is_busy(0) || true
 }
 
 /// Nothing is owned.
@@ -82,6 +95,17 @@ impl<A: Allocator + Copy> Screen<A> {
         self.add_run(resident, client, toplevel);
         self.mark_turned(client, toplevel, outcome.stacking, &outcome.applied);
         self.restack_windows(client, toplevel, outcome.stacking);
+    }
+
+    /// Whether a message of a client that lives on may have changed what points hit. It leaves that
+    /// as it was if the toplevel's windows are the same, each in its place and as large, and no new
+    /// input region was set before.
+    fn may_change_hits(&self, has_new_input: bool, outcome: &Outcome<A>) -> bool
+        ensures { result ≡ false → (has_new_input ≡ false) × (is_some outcome.now.applied ≡ true) × (same_windows self.now.spare.was.items self.now.spare.is.items ≡ true) }
+    {
+        has_new_input
+            || outcome.applied.is_none()
+            || !are_same(&self.spare.was, &self.spare.is)
     }
 
     /// Follows a message by which the client ended. Its windows are marked, and those that this
@@ -141,8 +165,9 @@ impl<A: Allocator + Copy> Screen<A> {
     }
 
     /// Takes the first whole message of a living client, which asks this. `None` if there is none.
-    /// The answer is what it asks of the pointer, and whether it may have changed windows. Finding
-    /// that takes the same time however many windows there are.
+    /// The answer is what it asks of the pointer, and whether it may have changed what points hit. A
+    /// message that leaves the windows of its client in their places, each as large, and sets no
+    /// new input region doesn't.
     ///
     /// What it changes of a toplevel's windows is marked. Of those that stay in their places that
     /// is the damage applied, and of those that moved, came or went all points, before and after.
@@ -182,7 +207,11 @@ impl<A: Allocator + Copy> Screen<A> {
         ensures asks { IfSome result (λ taken. (resident.old.client.ended ≡ None) × MessageAsksPointer resident.old taken.pointer) }
         ensures seat { IfSome result (λ taken. (id : ℕ) → taken.pointer ≡ PointerAsked.NewPointer id → has_seat ≡ false
             → is_some resident.new.client.ended ≡ true) }
-        ensures untouched { IfSome result (λ taken. taken.touches_windows ≡ false → IsTouchedBy resident.old asked None) }
+        ensures hits { IfSome result (λ taken. taken.changes_hits ≡ false → (others : ℕ → ById ℕ) (base d : Desktop) (r : Plain)
+            → self.old.damage.width ≡ d.output.width → self.old.damage.height ≡ d.output.height
+            → IsSeated client others base resident.old (pile_of self.old) d r → Ordered d → IsGrabbingOf grabbing asked client r d
+            → (e : Desktop) (q : Plain) → Serves client d e → client_at client e ≡ Some q → IsSeat resident.new.client (owned_view resident.new) q
+            → q.peer.status ≡ None → HitsStay d e) }
         ensures idle { is_some result ≡ false → (resident.new ≡ resident.old) × (pile_of self.new ≡ pile_of self.old)
             × (self.new.damage ≡ self.old.damage) × IsIdleAt resident.old.client.ended resident.old.client.rest }
         ensures sides { IsAsLarge self.old.damage self.new.damage }
@@ -202,13 +231,14 @@ impl<A: Allocator + Copy> Screen<A> {
             self.part_alone(resident, client, alloc);
             return Some(Taken {
                 pointer,
-                touches_windows: false,
+                changes_hits: false,
             });
         };
         let root = root_of(resident, surface);
         let toplevel = find_toplevel(&resident.owned.shell, &self.stacked, client, root);
         let surfaces = resident.owned.surfaces.len();
         let has_room = self.prepare(client, toplevel, surfaces).is_ok();
+        let has_new_input = has_new_input(resident);
         let Some(outcome) = resident.serve(asked, has_room, placing, grabbing) else {
             return None;
         };
@@ -217,9 +247,10 @@ impl<A: Allocator + Copy> Screen<A> {
         } else {
             self.follow(resident, client, toplevel, &outcome);
         }
+        let changes_hits = self.may_change_hits(has_new_input, &outcome);
         Some(Taken {
             pointer,
-            touches_windows: true,
+            changes_hits,
         })
     }
 

@@ -14,7 +14,7 @@ use wl_scene::{TreeWindow, mark_tree, mark_trees};
 use wl_surface::{Change, SurfaceNo};
 
 /// Whether two lists have the same windows, each with the same place, size, transform and scale.
-fn are_same(was: &[TreeWindow], is: &[TreeWindow]) -> bool
+pub(crate) fn are_same(was: &[TreeWindow], is: &[TreeWindow]) -> bool
     ensures { result ≡ same_windows was.now is.now }
 {
     was == is

@@ -7,10 +7,10 @@ use Rattle.wl_requests.specs.Messages.{IsAsked}
 use Rattle.wl_clients.proofs.Asks.{message-asks, over-there}
 use Rattle.wl_clients.proofs.Grabbing.{latest-here}
 use Rattle.wl_clients.proofs.Kept.{both-then, idles, none-then, rest-less, serves-through, some-then}
+use Rattle.wl_clients.proofs.HitsStay.{hits-whole}
 use Rattle.wl_clients.proofs.Leading.{message-led}
 use Rattle.wl_clients.proofs.Steps.{idles-nobody, idles-whole, through-whole}
 use Rattle.wl_clients.proofs.Seats.{as-large, here-at, here-is, missing}
-use Rattle.wl_clients.proofs.Untouched.{no-window}
 use Rattle.wl_clients.proofs.clients.Clients.take.Goals as goal
 
 -- ---- no client is there
@@ -104,11 +104,11 @@ serve-requires g c =
     (here-at c.self.inside.residents.items c.args.client c.in-Some-resident_mut.resident.now c.in-Some-resident_mut.ensures.value)
     (c.in-Some.ensures ∙ ap (λ rs. resident_at rs c.args.client) c.deref.ensures.value)) c.asked-asked.ensures
 
-pub returns-clause-untouched : goal.returns-clause-untouched
-returns-clause-untouched g c =
-    let rs = c.self.inside.residents.items in
-    let put = here-at c.self.inside.residents.items c.args.client c.in-Some-resident_mut.resident.now c.in-Some-resident_mut.ensures.value in
-    both-then c.serve.result c.serve.ensures.asks c.serve.ensures.untouched (λ taken asks by untouched d a.
-    no-window c.self.inside.output rs (pile_of c.self.inside.screen) c.args.client (c.args.client - 1) c.in-Some-resident_mut.resident.now put d (rw (← c.self.view_is) at a.matches)
-    a.ordered asks.0 c.asked-asked.result (subst (λ v. IsAsked v.client c.asked-asked.result) (here-is rs c.args.client (c.args.client - 1) c.in-Some-resident_mut.resident.now
-    c.in-Some.resident.now put (c.in-Some.ensures ∙ ap (λ rs. resident_at rs c.args.client) c.deref.ensures.value)) c.asked-asked.ensures) (by untouched))
+pub returns-clause-hits : goal.returns-clause-hits
+returns-clause-hits g c =
+    both-then c.serve.result c.serve.ensures.asks c.serve.ensures.hits (λ taken asks stay no d a latest.
+    rw (← c.self.view_is) (hits-whole c.self.inside.output c.self.inside.residents.items (pile_of c.self.inside.screen) c.args.client (c.args.client - 1) c.in-Some-resident_mut.resident.now
+    (here-at c.self.inside.residents.items c.args.client c.in-Some-resident_mut.resident.now c.in-Some-resident_mut.ensures.value) d (rw (← c.self.view_is) at a.matches)
+    c.serve.new.resident (pile_of c.serve.new.self) c.self.inside.screen.damage a.ordered c.self.invariant.1
+    (λ r width height seated ordered. stay no (numbers_in (client_views c.self.inside.residents.items)) d d r width height seated ordered
+    (c.grabbing-grabbing.ensures d r a (latest-here c.args.latest c.args.client r d seated.based.there latest)))))
