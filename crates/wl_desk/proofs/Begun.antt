@@ -19,6 +19,7 @@ use Rattle.law_desktop.specs.Pointed.Pointed.{MovedStands, asked, keeping, point
 use Rattle.law_desktop.proofs.PointerAside.Pointers.{keeping-stays}
 use Rattle.wl_requests.specs.declared.pointer_asked.PointerAsked.{PointerAsked}
 use Rattle.wl_clients.specs.Pointing.{AsksOfPointer}
+use Rattle.wl_clients.specs.Touching.{HitsStay}
 use Rattle.wl_desk.specs.Agreeing.{IsPlaced}
 use Rattle.wl_desk.specs.Beginning.{IsMovable, IsToMove, begun, chosen_by, moved_by}
 use Rattle.wl_desk.specs.declared.moves.Movable.{Movable}
@@ -99,14 +100,14 @@ begun-looks : (t : Option Target) (standing : List Standing) (p : Pointer) → L
 begun-looks None standing p = record { place = refl; buttons = refl; focus = refl }
 begun-looks (Some t) standing p = record { place = refl; buttons = refl; focus = refl }
 
--- the focus is settled still where the windows are as they were
-pub after-settled : (c : ℕ) (d e : Desktop) → status_in c e ≡ None → IsSettled d → all_windows e ≡ all_windows d → IsSettled (pointed (pointer_after c d e) e)
-after-settled c d e alive is same =
+-- the focus is settled still where each point hits what it hit
+pub after-settled : (c : ℕ) (d e : Desktop) → status_in c e ≡ None → IsSettled d → HitsStay (unpointed d) e → IsSettled (pointed (pointer_after c d e) e)
+after-settled c d e alive is stay =
     let t : Option Target = to_move (asked c d) c d in
     let after : pointer_after c d e ≡ keeping e.standing (begun t d.pointer) =
     after-begun c d e ∙ ap (λ (s : Option Cause). keeping e.standing (pointer_if s c (begun t d.pointer))) alive in
     subst (λ (p : Pointer). p.focus ≡ settled p (all_windows e)) (sym after)
-    (settled-still d.pointer (keeping e.standing (begun t d.pointer)) (all_windows d) (all_windows e) (begun-looks t e.standing d.pointer) same is)
+    (settled-still d.pointer (keeping e.standing (begun t d.pointer)) (unpointed d) e (begun-looks t e.standing d.pointer) stay is)
 
 -- a new wl_pointer leaves the pointer as it is
 pub after-get : (c id version : ℕ) (d : Desktop) (path : List Desktop) (e : Desktop) → MovedStands d → asked c d ≡ Some (GetPointer id version)

@@ -1,8 +1,12 @@
 -- The surface that has the focus has a window.
 use Rattle.std.proofs.Common.{◌≡◌, ◌≢◌, ℕ, List, [], ◌∷◌, true, Option, Some, None, refl, ap, sym, ◌∙◌}
 use Rattle.std.proofs.lemmas.Option.{none-some}
-use Rattle.spec_desktop.specs.Pointer.{Pointer, Target, hit_by, is_stacked, kept_focus, settled, settled_focus}
-use Rattle.spec_desktop.specs.Windows.{Place, Window}
+use Rattle.std.specs.Prelude.{if◌then◌else◌}
+use Rattle.spec_desktop.specs.Desktop.{Desktop}
+use Rattle.spec_desktop.specs.Pointer.{Pointer, Target, hit_by, is_stacked, kept_focus, settled, settled_focus, target_of}
+use Rattle.spec_desktop.specs.Stacked.{all_windows}
+use Rattle.spec_desktop.specs.Windows.{Place, Window, hit}
+use Rattle.wl_clients.specs.Touching.{HitsStay}
 use Rattle.wl_desk.proofs.Points.{settled-stacked}
 
 -- where the focus is settled
@@ -28,12 +32,33 @@ settled-by : (buttons : List ℕ) (p : Pointer) (ws : List Window) → settled_f
 settled-by [] p ws = refl
 settled-by (button ∷ buttons) p ws = refl
 
--- where the windows are as they were too, the focus is settled still
-pub settled-still : (p q : Pointer) (ws vs : List Window) → LooksAs p q → vs ≡ ws → p.focus ≡ settled p ws → q.focus ≡ settled q vs
-settled-still p q ws vs looks same settled =
-    looks.focus ∙ settled ∙ settled-by p.buttons p ws
-    ∙ ap (λ (buttons : List ℕ). focus_by buttons p.place p.focus ws) (sym looks.buttons)
-    ∙ ap (λ (place : Option Place). focus_by q.buttons place p.focus ws) (sym looks.place)
-    ∙ ap (λ (focus : Option Target). focus_by q.buttons q.place focus ws) (sym looks.focus)
-    ∙ ap (λ (shown : List Window). focus_by q.buttons q.place q.focus shown) (sym same)
-    ∙ sym (settled-by q.buttons q vs)
+-- what is hit stays too
+module _ (d e : Desktop) (stay : HitsStay d e) where
+  same-hit : (place : Option Place) → hit_by place (all_windows e) ≡ hit_by place (all_windows d)
+  same-hit None = refl
+  same-hit (Some at) = stay.hit at.x at.y
+
+  same-kept : (focus : Option Target) → kept_focus focus (all_windows e) ≡ kept_focus focus (all_windows d)
+  same-kept None = refl
+  same-kept (Some t) = ap (λ b. if b then Some t else None) (stay.stacked t)
+
+  same-by : (buttons : List ℕ) (place : Option Place) (focus : Option Target) → focus_by buttons place focus (all_windows e) ≡ focus_by buttons place focus (all_windows d)
+  same-by [] place focus = same-hit place
+  same-by (button ∷ buttons) place focus = same-kept focus
+
+-- so the focus is settled still
+pub settled-still : (p q : Pointer) (d e : Desktop) → LooksAs p q → HitsStay d e → p.focus ≡ settled p (all_windows d) → q.focus ≡ settled q (all_windows e)
+settled-still p q d e looks stay settled =
+    looks.focus ∙ settled ∙ settled-by p.buttons p (all_windows d)
+    ∙ ap (λ (buttons : List ℕ). focus_by buttons p.place p.focus (all_windows d)) (sym looks.buttons)
+    ∙ ap (λ (place : Option Place). focus_by q.buttons place p.focus (all_windows d)) (sym looks.place)
+    ∙ ap (λ (focus : Option Target). focus_by q.buttons q.place focus (all_windows d)) (sym looks.focus)
+    ∙ sym (same-by d e stay q.buttons q.place q.focus)
+    ∙ sym (settled-by q.buttons q (all_windows e))
+
+-- what is hit stays as the windows do
+pub hits-on : (d e f : Desktop) → HitsStay d e → all_windows f ≡ all_windows e → HitsStay d f
+hits-on d e f stay same = record {
+  hit = λ x y. ap (λ (ws : List Window). target_of (hit x y ws)) same ∙ stay.hit x y;
+  stacked = λ t. ap (λ (ws : List Window). is_stacked t ws) same ∙ stay.stacked t;
+}

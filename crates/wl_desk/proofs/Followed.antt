@@ -21,7 +21,7 @@ use Rattle.wl_requests.specs.declared.pointer_asked.PointerAsked.TheVariants.{Ne
 use Rattle.wl_clients.specs.Agreeing.{Agrees as KeptAgrees}
 use Rattle.wl_clients.specs.Agreement.{numbers_in}
 use Rattle.wl_clients.specs.Leading.{Led}
-use Rattle.wl_clients.specs.Touching.{ChangesNoWindow}
+use Rattle.wl_clients.specs.Touching.{ChangesNoHit}
 use Rattle.wl_clients.specs.declared.grabs.Latest.{Latest}
 use Rattle.wl_clients.specs.View.{DeskView as ClientsView, MarkedDesk as KeptDesk}
 use Rattle.wl_desk.specs.Agreeing.{Agrees}
@@ -156,15 +156,15 @@ alive-status (Some r) is = by r.peer.status is
     by (Some why) is = absurd (cc)
 
 -- `settled` tells whether the focus is known to be settled then
-pub served-whole : (c : ℕ) (touches settled : Bool) (fed : Fed) (request : PointerAsked) (movable : Option Movable) (t : Option Target) (old mid next ended new : MarkedDesk)
+pub served-whole : (c : ℕ) (changes settled : Bool) (fed : Fed) (request : PointerAsked) (movable : Option Movable) (t : Option Target) (old mid next ended new : MarkedDesk)
     → ((d : Desktop) → Agrees old.desk d → IsMovable (numbers_in old.desk.kept.clients c) c d movable) → t ≡ chosen_by movable request
     → ((d : Desktop) → Agrees old.desk d → Took c request old mid d)
     → ((was : MarkedDesk) (d : Desktop) → (took : Took c request was mid d) → IsToMove (asked c d) c d t → IsFollowed c took.desktop was next d)
-    → (touches ≡ false → (d : Desktop) → Agrees old.desk d → ChangesNoWindow c (unpointed d))
+    → (changes ≡ false → (d : Desktop) → Agrees old.desk d → ChangesNoHit c mid.desk.kept (unpointed d))
     → ((e : Desktop) → KeptAgrees mid.desk.kept e → fed ≡ status_of (peer_at c e))
-    → (settled ≡ true → (fed ≡ Alive) × (touches ≡ false))
+    → (settled ≡ true → (fed ≡ Alive) × (changes ≡ false))
     → EndsAllFrom (record next { settled = settled }) ended → SettlesFrom ended new → (d : Desktop) → Agrees old.desk d → Led (Agrees new.desk) (Message c) old.damage new.damage d
-served-whole c touches settled fed request movable t old mid next ended new may is took follows untouched status why ends settles d a =
+served-whole c changes settled fed request movable t old mid next ended new may is took follows stay status why ends settles d a =
     let it = took d a in
     let to : IsToMove (asked c d) c d t =
     subst (λ (x : Option Target). IsToMove (asked c d) c d x) (sym is)
@@ -175,6 +175,7 @@ served-whole c touches settled fed request movable t old mid next ended new may 
       midway = u.led.midway;
       known = λ yes.
           let h = why yes in
-          u.unmoved (alive-status (client_at c it.desktop) (sym h.0 ∙ status it.desktop it.kept)) (untouched h.1 d a);
+          let alive = alive-status (client_at c it.desktop) (sym h.0 ∙ status it.desktop it.kept) in
+          u.unmoved alive (stay h.1 d a it.path it.desktop it.leads it.kept alive);
     } in
     settled-on (Message c) d old at ended new (as-marked (Message c) old next settled d u.led) refl (ends u.led.mid amid) settles

@@ -29,7 +29,7 @@ use Rattle.wl_requests.specs.declared.pointer_asked.PointerAsked.TheVariants.{Ne
 use Rattle.wl_clients.specs.Agreeing.{Agrees as KeptAgrees}
 use Rattle.wl_clients.specs.Agreement.{numbers_in}
 use Rattle.wl_clients.specs.Marking.{MarksThrough}
-use Rattle.wl_clients.specs.Touching.{ChangesNoWindow}
+use Rattle.wl_clients.specs.Touching.{HitsStay}
 use Rattle.wl_clients.specs.declared.grabs.Latest.{Latest}
 use Rattle.wl_clients.specs.View.{DeskView as ClientsView}
 use Rattle.wl_clients.proofs.Agreed.{agrees-apart}
@@ -40,7 +40,7 @@ use Rattle.wl_desk.specs.Midway.{IsMidway, IsTelling}
 use Rattle.wl_desk.specs.View.{DeskView, MarkedDesk}
 use Rattle.wl_desk.proofs.Asking.{on-new, refused-ends, told-marks, told-still}
 use Rattle.wl_desk.proofs.Begun.{after-get, after-settled, back-placed}
-use Rattle.wl_desk.proofs.Focused.{focus-placed, focus-stacked, settled-still}
+use Rattle.wl_desk.proofs.Focused.{focus-placed, focus-stacked, hits-on, settled-still}
 use Rattle.wl_desk.proofs.Leading.{kept-aside}
 use Rattle.wl_desk.proofs.Onward.{last-at, marks-as, marks-to, none-more}
 use Rattle.wl_desk.proofs.Placed.{placed-as}
@@ -66,7 +66,7 @@ midway-at v e p kept seats latest is placed =
 pub from-aside : (c : ℕ) (p : Desktop → Pointer) (d e : Desktop) (aside : List Desktop) (old new : MarkedDesk)
     → SettlesOn (λ a. pointed (p a) a) (Leads (Message c) d) aside e → AreDistinct (all_windows e) → MarksThrough (unpointed d) aside old.damage new.damage
     → IsAsLarge old.damage new.damage → IsMidway new.desk (unstruck (pointed (p e) e))
-    → (status_in c e ≡ None → ChangesNoWindow c (unpointed d) → IsSettled (pointed (p e) e)) → IsFollowed c e old new d
+    → (status_in c e ≡ None → HitsStay (unpointed d) e → IsSettled (pointed (p e) e)) → IsFollowed c e old new d
 from-aside c p d e aside old new on apart marks sides midway unmoved =
     let before : List Desktop = map (λ a. pointed (p a) a) on.0 in
     let start : Desktop = pointed (p e) e in
@@ -104,7 +104,7 @@ followed c request old mid new d took on kept seats latest pointer damage =
     (midway-at new.desk e (pointer_after c d e) (subst (λ (k : ClientsView). KeptAgrees k e) (sym kept) took.kept)
     (subst (λ (s : List (List ℕ)). AreSeats s e) (sym seats) took.seats)
     (subst (λ (l : List Latest). AreLatest l (unstruck e)) (sym latest) took.latest) pointer (back-placed c d e took.placed))
-    (λ alive untouched. after-settled c d e alive took.settled (untouched took.path e took.leads alive))
+    (λ alive stay. after-settled c d e alive took.settled stay)
 
 -- ---- a new wl_pointer is told
 
@@ -183,10 +183,11 @@ module _ (c id : ℕ) (old mid : MarkedDesk) (d : Desktop) (took : Took c (NewPo
         marks = first;
         sides = sides;
       };
-      unmoved = λ yes untouched.
-          settled-still d.pointer n.desktop.pointer (all_windows d) (all_windows n.desktop)
+      unmoved = λ yes stay.
+          settled-still d.pointer n.desktop.pointer (unpointed d) n.desktop
           (record { place = ap (λ (p : Pointer). p.place) still; buttons = ap (λ (p : Pointer). p.buttons) still; focus = ap (λ (p : Pointer). p.focus) still })
+          (hits-on (unpointed d) took.desktop n.desktop stay
           (same-windows put n.desktop
-          (tells-shows (drawing true) (λ (r : Resident). entered_at id r.peer.serial put.pointer.place (focus_window (Some t) (all_windows put))) (λ r. refl) t.client (unstruck put) n tells)
-          ∙ untouched took.path took.desktop took.leads alive) took.settled;
+          (tells-shows (drawing true) (λ (r : Resident). entered_at id r.peer.serial put.pointer.place (focus_window (Some t) (all_windows put))) (λ r. refl) t.client (unstruck put) n tells)))
+          took.settled;
     }

@@ -20,7 +20,7 @@ use Rattle.wl_clients.specs.Agreement.{numbers_in}
 use Rattle.wl_clients.specs.Feeding.{IsIdleIn}
 use Rattle.wl_clients.specs.Leading.{Led}
 use Rattle.wl_clients.specs.Pointing.{AsksOfPointer, IsLatest}
-use Rattle.wl_clients.specs.Touching.{ChangesNoWindow}
+use Rattle.wl_clients.specs.Touching.{ChangesNoHit}
 use Rattle.wl_clients.specs.declared.grabs.Latest.{Latest}
 use Rattle.wl_clients.specs.View.{MarkedDesk as KeptDesk}
 use Rattle.wl_desk.specs.Agreeing.{Agrees, AreLatest, AreSeats}
@@ -88,10 +88,14 @@ took-whole c request room k now seats is latest p on old view same placed told s
     subst (λ (m : MarkedDesk). Took c request m (desk_with now is latest p on) d) view
     (taken c request room (desk_with k seats latest p on) (desk_with now is latest p on) d was (leads (unpointed d) was.kept (serials d was)) (asks (unpointed d) was.kept) no_room large placed same refl refl)
 
--- what is said of the clients' windows is said of the desktop's
-pub untouched-whole : (c : ℕ) (k : KeptDesk) (seats : List (List ℕ)) (latest : List Latest) (p : Pointer) (on : Bool) (old : MarkedDesk) → desk_with k seats latest p on ≡ old
-    → ((d : Desktop) → KeptAgrees k.desk d → ChangesNoWindow c d) → (d : Desktop) → Agrees old.desk d → ChangesNoWindow c (unpointed d)
-untouched-whole c k seats latest p on old view untouched d a = untouched (unpointed d) (subst (λ (m : MarkedDesk). Agrees m.desk d) (sym view) a).kept
+-- what is said of what points hit, by what is kept of the clients, is said by the desk
+pub hits-whole : (c : ℕ) (k now : KeptDesk) (seats : List (List ℕ)) (latest : List Latest) (p : Pointer) (on : Bool) (old : MarkedDesk) → desk_with k seats latest p on ≡ old → (told : Latest)
+    → ((d : Desktop) → Agrees (desk_with k seats latest p on).desk d → IsLatest told (client_at c d))
+    → ((d : Desktop) → KeptAgrees k.desk d → IsLatest told (client_at c d) → ChangesNoHit c now.desk d) → (d : Desktop) → Agrees old.desk d
+    → ChangesNoHit c now.desk (unpointed d)
+hits-whole c k now seats latest p on old view told serials stay d a =
+    let was : Agrees (desk_with k seats latest p on).desk d = subst (λ (m : MarkedDesk). Agrees m.desk d) (sym view) a in
+    stay (unpointed d) was.kept (serials d was)
 
 -- what was written to the wl_pointers of all is there
 pub written : {V Z : Type 0} (v : Vec V Z) (xs now : List V) → length xs ≡ length now → now ≡ v.items → (with_items v xs).items ≡ xs

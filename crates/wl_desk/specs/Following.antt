@@ -14,7 +14,7 @@ use Rattle.wl_clients.specs.Agreeing.{Agrees as KeptAgrees}
 use Rattle.wl_clients.specs.Agreement.{numbers_in}
 use Rattle.wl_clients.specs.Marking.{MarksThrough}
 use Rattle.wl_clients.specs.Pointing.{AsksOfPointer}
-use Rattle.wl_clients.specs.Touching.{ChangesNoWindow}
+use Rattle.wl_clients.specs.Touching.{HitsStay}
 use Rattle.wl_desk.specs.Agreeing.{AreLatest, AreSeats, IsPlaced}
 use Rattle.wl_desk.specs.Midway.{IsMidway}
 use Rattle.wl_desk.specs.View.{MarkedDesk}
@@ -48,11 +48,11 @@ pub record IsUnsettled (h : Happening) (old new : MarkedDesk) (d : Desktop) : Ty
   pub marks : MarksThrough d path old.damage new.damage
   pub sides : IsAsLarge old.damage new.damage
 
--- A message of this client led so far, by way of the desktop e. Where the client lives on there and no window changed, the focus is settled
--- still.
+-- A message of this client led so far, by way of the desktop e. Where the client lives on there and each point hits what it hit, the focus is
+-- settled still.
 pub record IsFollowed (c : ℕ) (e : Desktop) (old new : MarkedDesk) (d : Desktop) : Type 0 where
   pub led : IsUnsettled (Message c) old new d
-  pub unmoved : status_in c e ≡ None → ChangesNoWindow c (unpointed d) → IsSettled led.mid.desktop
+  pub unmoved : status_in c e ≡ None → HitsStay (unpointed d) e → IsSettled led.mid.desktop
 
 -- The pointer where it has left the client of this surface, if that ended.
 abbrev pub left_of : Option Target → Desktop → Pointer → Pointer

@@ -18,7 +18,7 @@ ghost use Rattle.wl_clients.specs.Feeding.{IsIdleIn, kept_at, rest_in, served_of
 ghost use Rattle.wl_clients.specs.Leading.{Led};
 ghost use Rattle.wl_clients.specs.NextStore.{next_store_of};
 ghost use Rattle.wl_clients.specs.Pointing.{IsLatest};
-ghost use Rattle.wl_clients.specs.Touching.{ChangesNoWindow};
+ghost use Rattle.wl_clients.specs.Touching.{ChangesNoHit};
 ghost use Rattle.wl_desk.specs.Agreeing.{Agrees, LeadsBy, MarksNothing};
 ghost use Rattle.wl_desk.specs.Beginning.{IsToMove};
 ghost use Rattle.wl_desk.specs.Following.{IsFollowed, Took, left_of};
@@ -51,8 +51,8 @@ pub struct Desk<A: Allocator> {
     pub(crate) seats: Vec<Vec<u32, A>, A>,
     pub(crate) latest: Vec<Latest, A>,
     pub(crate) pointer: Focus,
-    /// Settling the focus would do nothing. So a message that touches no windows costs no look at
-    /// them.
+    /// Settling the focus would do nothing. So a message that changes nothing of what points hit
+    /// costs no look at the windows.
     pub(crate) is_settled: bool,
 }
 
@@ -176,7 +176,7 @@ impl<A: Allocator + Copy> Desk<A> {
         };
         let fed = self.clients.status(client);
         self.follow(client, taken.pointer, to_move(movable, taken.pointer));
-        self.is_settled = is_still(fed, taken.touches_windows);
+        self.is_settled = is_still(fed, taken.changes_hits);
         served_of(self.clients.status(client))
     }
 
@@ -184,7 +184,7 @@ impl<A: Allocator + Copy> Desk<A> {
     /// `None` if there is none. The pointer stays as it is.
     fn take(&mut self, client: ClientNo) -> Option<Taken>
         ensures took { IfSome result (λ taken. (d : Desktop) → Agrees self.old.desk d → Took client taken.pointer self.old self.new d) }
-        ensures untouched { IfSome result (λ taken. taken.touches_windows ≡ false → (d : Desktop) → Agrees self.old.desk d → ChangesNoWindow client (unpointed d)) }
+        ensures hits { IfSome result (λ taken. taken.changes_hits ≡ false → (d : Desktop) → Agrees self.old.desk d → ChangesNoHit client self.new.desk.kept (unpointed d)) }
         ensures more { IfNone result ((d : Desktop) → Agrees self.old.desk d → Agrees self.new.desk d × IsIdleIn client d) }
         ensures rests { IfNone result (self.new.damage ≡ self.old.damage) }
         ensures sides { IsAsLarge self.old.damage self.new.damage }
@@ -465,14 +465,14 @@ fn no_serials<A: Allocator + Copy>(alloc: A) -> Result<Vec<Latest, A>, AllocErro
     Ok(latest)
 }
 
-/// Whether the focus is settled after a message: its client fares so, and it may have touched
-/// windows.
-fn is_still(fed: Fed, touches_windows: bool) -> bool
-    ensures still { result ≡ true → (fed ≡ Fed.Alive) × (touches_windows ≡ false) }
-    ensures other { result ≡ false → fed ≡ Fed.Alive → touches_windows ≡ true }
+/// Whether the focus is settled after a message: its client fares so, and it may have changed what
+/// points hit.
+fn is_still(fed: Fed, changes_hits: bool) -> bool
+    ensures still { result ≡ true → (fed ≡ Fed.Alive) × (changes_hits ≡ false) }
+    ensures other { result ≡ false → fed ≡ Fed.Alive → changes_hits ≡ true }
 {
     match fed {
-        Fed::Alive => !touches_windows,
+        Fed::Alive => !changes_hits,
         Fed::NoClient | Fed::Ended(_) => false,
     }
 }

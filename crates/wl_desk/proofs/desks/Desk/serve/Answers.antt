@@ -9,9 +9,9 @@ use Rattle.wl_desk.proofs.desks.Desk.serve.Goals as goal
 
 pub returns-clause-leads : goal.returns-clause-leads
 returns-clause-leads g c = λ more ended new ends settles.
-    served-whole c.args.client c.in-Some.taken.touches_windows c.is_still-self-inside.result c.status-fed.result c.in-Some.taken.pointer c.movable-movable.result (target_or_none c.to_move.result) c.args.self.now c.take.new.self
+    served-whole c.args.client c.in-Some.taken.changes_hits c.is_still-self-inside.result c.status-fed.result c.in-Some.taken.pointer c.movable-movable.result (target_or_none c.to_move.result) c.args.self.now c.take.new.self
     (desk_with c.self-2.inside.clients (map (λ s. s.items) c.self-2.inside.seats.items) c.self-2.inside.latest.items c.self-2.inside.pointer c.self-2.inside.is_settled) ended new
-    c.movable-movable.ensures c.to_move.ensures c.in-Some.ensures.took (rw (← c.self-2.view_is) at c.follow.ensures.follows) c.in-Some.ensures.untouched
+    c.movable-movable.ensures c.to_move.ensures c.in-Some.ensures.took (rw (← c.self-2.view_is) at c.follow.ensures.follows) c.in-Some.ensures.hits
     (status-at c.args.client c.self.inside.clients _ _ c.self.inside.pointer _ c.take.new.self c.status-fed.result c.self.view_is c.status-fed.ensures) c.is_still-self-inside.ensures.still ends settles
 
 pub returns-clause-told : goal.returns-clause-told

@@ -2,7 +2,7 @@ use Rattle.std.proofs.Common.{◌<◌, ℕ, List, map, ap, subst, ◌∙◌, vec
 use Rattle.std.specs.Vec.{with_items}
 use Rattle.wl_desk.specs.Seating.{seats_after}
 use Rattle.wl_desk.proofs.Seated.{IsPlaced, held-placed}
-use Rattle.wl_desk.proofs.Taking.{rested-whole, took-whole, untouched-whole, written}
+use Rattle.wl_desk.proofs.Taking.{hits-whole, rested-whole, took-whole, written}
 use Rattle.wl_desk.proofs.desks.Desk.take.Goals as goal
 
 pub returns-in_default-clause-more : goal.returns-in_default-clause-more
@@ -25,6 +25,7 @@ returns-clause-took g c =
     (held-placed (λ v. vec_len v < vec_capacity v) (λ s. s.items) c.args.client c.make_room-has_room.new.seats (c.make_room-has_room.ensures.room room)))
     c.serials-latest.result (λ d a. c.serials-latest.ensures d (rw (← c.self.view_is) a)) said.leads said.asks said.seat said.sides
 
-pub returns-clause-untouched : goal.returns-clause-untouched
-returns-clause-untouched g c = λ none.
-    untouched-whole c.args.client c.self.inside.clients _ _ c.self.inside.pointer _ c.args.self.now c.self.view_is (c.in-Some.ensures.untouched none)
+pub returns-clause-hits : goal.returns-clause-hits
+returns-clause-hits g c = λ none.
+    hits-whole c.args.client c.self.inside.clients c.take.new.self _ c.self.inside.latest.items c.self.inside.pointer _ c.args.self.now c.self.view_is
+    c.serials-latest.result (λ d a. c.serials-latest.ensures d (rw (← c.self.view_is) a)) (c.in-Some.ensures.hits none)
