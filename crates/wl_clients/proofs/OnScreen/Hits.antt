@@ -1,5 +1,5 @@
 -- What points hit stays where the windows of a toplevel stay in their places, and take input where they did.
-use Rattle.std.proofs.Common.{◌≡◌, ℕ, pos, Bool, true, Option, Some, None, List, [], ◌∷◌, ◌++◌, refl, ap, ap₂, sym, subst, ◌∙◌, eqb-true}
+use Rattle.std.proofs.Common.{◌≡◌, ℕ, pos, Bool, true, false, Option, Some, None, List, [], ◌∷◌, ◌++◌, refl, ap, ap₂, sym, subst, ◌∙◌, eqb-true}
 use Rattle.std.specs.Prelude.{ℤ, ◌-ℤ◌, ◌==◌, ◌&&◌, ◌||◌, fold, if◌then◌else◌}
 use Rattle.std.specs.List.{AllByRecursion, list_any}
 use Rattle.wl_geom.specs.Rect.{in_rect}

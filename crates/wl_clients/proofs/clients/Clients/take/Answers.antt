@@ -107,8 +107,8 @@ serve-requires g c =
 pub returns-clause-hits : goal.returns-clause-hits
 returns-clause-hits g c =
     both-then c.serve.result c.serve.ensures.asks c.serve.ensures.hits (λ taken asks stay no d a latest.
-    rw (← c.self.view_is) (hits-whole c.self.inside.output c.self.inside.residents.items (pile_of c.self.inside.screen) c.args.client (c.args.client - 1) c.in-Some-resident_mut.resident.now
+    hits-whole c.self.inside.output c.self.inside.residents.items (pile_of c.self.inside.screen) c.args.client (c.args.client - 1) c.in-Some-resident_mut.resident.now
     (here-at c.self.inside.residents.items c.args.client c.in-Some-resident_mut.resident.now c.in-Some-resident_mut.ensures.value) d (rw (← c.self.view_is) at a.matches)
     c.serve.new.resident (pile_of c.serve.new.self) c.self.inside.screen.damage a.ordered c.self.invariant.1
     (λ r width height seated ordered. stay no (numbers_in (client_views c.self.inside.residents.items)) d d r width height seated ordered
-    (c.grabbing-grabbing.ensures d r a (latest-here c.args.latest c.args.client r d seated.based.there latest)))))
+    (c.grabbing-grabbing.ensures d r a (latest-here c.args.latest c.args.client r d seated.based.there latest))))

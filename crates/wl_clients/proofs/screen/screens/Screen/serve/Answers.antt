@@ -19,8 +19,8 @@ use Rattle.wl_clients.proofs.screen.screens.Screen.serve.Goals as goal
 use Rattle.wl_clients.proofs.screen.screens.Screen.serve.Goals.{then-has_ended-2, else-has_ended-2}
 
 -- the windows of before, as they are kept
-told-so : {V : Type 0} {was now : Vec TreeWindow V} {is : List TreeWindow} → now ≡ was → same_windows now.items is ≡ true → same_windows was.items is ≡ true
-told-so {V} {was} {now} {is} kept same = subst (λ (v : Vec TreeWindow V). same_windows v.items is ≡ true) kept same
+told-so : {V : Type 0} (was now : Vec TreeWindow V) (is : List TreeWindow) → now ≡ was → same_windows now.items is ≡ true → same_windows was.items is ≡ true
+told-so {V} was now is kept same = subst (λ (v : Vec TreeWindow V). same_windows v.items is ≡ true) kept same
 
 -- ---- no tree is touched
 
@@ -281,7 +281,8 @@ returns-clause-hits g c = λ no others base d r width height is ordered allowed 
       | else-has_ended-2 w ↦
           live-hits laws c.args.client others base d r v mid was ready is ordered asked placing surface root found o.stacking o.applied asks width height
           (lives-so mid.client.ended (sym c.has_ended-2.ensures ∙ w.if-has_ended-2.false)) w.follow.new.self w.follow.ensures.follows kept.1
-          (told-so w.follow.ensures.follows.was (subst (λ (s : Screen _). same_windows s.spare.was.items s.spare.is.items ≡ true) w.self-is kept.2))
+          (told-so ready.spare.was w.follow.new.self.spare.was w.follow.new.self.spare.is.items w.follow.ensures.follows.was
+          (subst (λ (s : Screen _). same_windows s.spare.was.items s.spare.is.items ≡ true) w.self-is kept.2))
           (c.has_new_input-has_new_input.ensures kept.0) e q serves there
           (subst (λ (k : Kept _). IsSeat k.client (owned_view k) q) w.resident-is seated)
     ]
