@@ -23,7 +23,6 @@ pub mod Runs
 pub mod Screens
 pub mod Seats
 pub mod Shown
-pub mod StandIn
 pub mod Staying
 pub mod Touching
 pub mod View

@@ -14,8 +14,7 @@ use Rattle.wl_shell.specs.Agreement.{IsShell}
 use Rattle.spec_desktop.specs.Stacking.{Owned}
 use Rattle.spec_desktop.specs.Windows.{Owner}
 use Rattle.wl_surface.specs.State.{History}
-use Rattle.wl_clients.specs.StandIn.{HasInputApplied}
-use Rattle.wl_surface.specs.Slots.{Numbered, StandForAll, count}
+use Rattle.wl_surface.specs.Slots.{HasInputApplied, Numbered, StandForAll, count}
 use Rattle.wl_surface.specs.declared.applied.Applied.{Applied}
 use Rattle.spec_desktop.specs.Desktop.{Desktop, Resident, client_at, owned_in, owned_of, status_of}
 use Rattle.spec_desktop.specs.Happens.{Serves}

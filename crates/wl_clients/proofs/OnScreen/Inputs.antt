@@ -7,8 +7,7 @@ use Rattle.std.proofs.lemmas.Option.{none-some, same_Some}
 use Rattle.spec_desktop.specs.Peer.{Peer}
 use Rattle.wl_links.specs.Family.{Tied}
 use Rattle.wl_surface.specs.Request.{Commit, Request}
-use Rattle.wl_clients.specs.StandIn.{HasInputApplied}
-use Rattle.wl_surface.specs.Slots.{Numbered, Slots, StandForAll}
+use Rattle.wl_surface.specs.Slots.{HasInputApplied, Numbered, Slots, StandForAll}
 use Rattle.wl_surface.specs.State.{History, Values, applied, apply, asked, first_values, held, pending}
 use Rattle.wl_surface.specs.Surface.{Surface, applying, asking}
 use Rattle.wl_surface.specs.Surfaces.{Link, Surfaces, history_in, link_at, surface_at, with_change, without_surface}

@@ -3,8 +3,7 @@
 
 ghost use Rattle.std.specs.Prelude.{ℕ, ◌≡◌, ◌<◌, ◌≤◌, ◌||◌, IfSome, List, None, Some, length, is_some, pos, true, false};
 ghost use Rattle.wl_scene.specs.Repaint.{same_windows};
-ghost use Rattle.wl_clients.specs.StandIn.{HasInputApplied};
-ghost use Rattle.wl_surface.specs.Slots.{Numbered, StandForAll};
+ghost use Rattle.wl_surface.specs.Slots.{HasInputApplied, Numbered, StandForAll};
 ghost use Rattle.wl_scene.specs.Marking.{IsAsLarge};
 ghost use Rattle.wl_clients.specs.Marking.{MarksAtLeast, MarksAtMost, MarksOwn, MarksOwnIf, MarksThrough};
 ghost use Rattle.spec_desktop.specs.Objects.{ById};
@@ -52,7 +51,7 @@ pub struct Taken {
 fn has_new_input<A: Allocator>(resident: &Resident<A>) -> bool
     ensures { result ≡ false → (all : Numbered) → StandForAll resident.now.owned.surfaces.states all → (number : ℕ) → HasInputApplied (all number) }
 {
-    resident.owned.surfaces.states().is_busy(0) || true
+    resident.owned.surfaces.states().has_new_input()
 }
 
 /// Nothing is owned.
@@ -103,9 +102,7 @@ impl<A: Allocator + Copy> Screen<A> {
     fn may_change_hits(&self, has_new_input: bool, outcome: &Outcome<A>) -> bool
         ensures { result ≡ false → (has_new_input ≡ false) × (is_some outcome.now.applied ≡ true) × (same_windows self.now.spare.was.items self.now.spare.is.items ≡ true) }
     {
-        has_new_input
-            || outcome.applied.is_none()
-            || !are_same(&self.spare.was, &self.spare.is)
+        has_new_input || outcome.applied.is_none() || !are_same(&self.spare.was, &self.spare.is)
     }
 
     /// Follows a message by which the client ended. Its windows are marked, and those that this
