@@ -75,10 +75,7 @@ pub(crate) fn serve<'a, F: Files + Net + Clock + AllocGlobal, A: Allocator + Cop
 }
 
 /// A session of which nothing was asked yet, which is recorded where there is a writer.
-fn recorded<A: Allocator + Copy, R: Write>(
-    session: Session<A>,
-    writer: Option<R>,
-) -> Recorded<A, R>
+fn recorded<A: Allocator + Copy, R: Write>(session: Session<A>, writer: Option<R>) -> Recorded<A, R>
     requires { (width : ℕ) × (height : ℕ) × Agrees session.desk (empty (record { width = width; height = height })) }
     ensures session { result.session ≡ session }
     ensures recording { option_map (λ r. r.written.writer) result.recording ≡ writer }

@@ -38,11 +38,7 @@ fn look_at_all<A: Allocator + Copy, R: Write>(recording: &mut Recording<R>, sess
 }
 
 /// Who ended has no number there any more.
-fn look_at<R: Write>(
-    recording: &mut Recording<R>,
-    client: ClientNo,
-    status: Fed,
-)
+fn look_at<R: Write>(recording: &mut Recording<R>, client: ClientNo, status: Fed)
     ensures { (first : Option (List ℕ)) (notes : Notes) → HoldsNotes R.contents first notes recording.old
         → HoldsNotes R.contents first (looked_at client status notes) recording.new }
 {
@@ -54,11 +50,7 @@ fn look_at<R: Write>(
 }
 
 /// Who ended for this cause has no number there any more. Where a replay wouldn't end it, it goes.
-fn end_there<R: Write>(
-    recording: &mut Recording<R>,
-    client: ClientNo,
-    cause: Cause,
-)
+fn end_there<R: Write>(recording: &mut Recording<R>, client: ClientNo, cause: Cause)
     ensures { (first : Option (List ℕ)) (notes : Notes) → HoldsNotes R.contents first notes recording.old
         → HoldsNotes R.contents first (looked_at client (Fed.Ended cause) notes) recording.new }
 {
@@ -93,10 +85,7 @@ pub(crate) fn note_connect<R: Write>(
     }
 }
 
-fn note_connected<R: Write>(
-    recording: &mut Recording<R>,
-    connected: Result<ClientNo, ConnectError>,
-)
+fn note_connected<R: Write>(recording: &mut Recording<R>, connected: Result<ClientNo, ConnectError>)
     ensures { NotesOf R.contents Connect (Done.Connect connected) recording.old recording.new }
 {
     match connected {
@@ -182,10 +171,7 @@ fn part(bytes: &[u8], from: usize, end: usize) -> Option<&[u8]>
 }
 
 /// A client goes.
-pub(crate) fn note_gone<R: Write>(
-    recording: &mut Option<Recording<R>>,
-    client: ClientNo,
-)
+pub(crate) fn note_gone<R: Write>(recording: &mut Option<Recording<R>>, client: ClientNo)
     ensures { (done : Done) → OnBoth (NotesOf R.contents (Leave client) done) recording.old recording.new }
 {
     if let Some(recording) = recording {
@@ -194,10 +180,7 @@ pub(crate) fn note_gone<R: Write>(
 }
 
 /// A frame is shown.
-pub(crate) fn note_tick<R: Write>(
-    recording: &mut Option<Recording<R>>,
-    time: u32,
-)
+pub(crate) fn note_tick<R: Write>(recording: &mut Option<Recording<R>>, time: u32)
     ensures { OnBoth (NotesOf R.contents (Tick time) Done.Tick) recording.old recording.new }
 {
     if let Some(recording) = recording {
@@ -206,12 +189,7 @@ pub(crate) fn note_tick<R: Write>(
 }
 
 /// The pointer goes to a point.
-pub(crate) fn note_motion<R: Write>(
-    recording: &mut Option<Recording<R>>,
-    time: u32,
-    x: i32,
-    y: i32,
-)
+pub(crate) fn note_motion<R: Write>(recording: &mut Option<Recording<R>>, time: u32, x: i32, y: i32)
     ensures { OnBoth (NotesOf R.contents (Motion time x y) Done.Motion) recording.old recording.new }
 {
     if let Some(recording) = recording {

@@ -8,8 +8,8 @@ ghost use Rattle.wl_session.specs.NextStore.{next_store_of};
 
 use crate::error::TurnError;
 use crate::noting::{
-    flush_recording, note_button, note_connect, note_fed, note_gone, note_motion,
-    note_store, settle,
+    flush_recording, note_button, note_connect, note_fed, note_gone, note_motion, note_store,
+    settle,
 };
 use std::alloc::Allocator;
 use std::io::Write;
