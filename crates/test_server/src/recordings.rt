@@ -20,7 +20,7 @@ fn records<R: Write + Drop>(alloc: Global, writer: R, turns: u32) -> Option<Resu
     let Ok(session) = Session::new(alloc, CONFIG) else {
         return None;
     };
-    let recorded = Recorded::new(alloc, session, writer);
+    let recorded = Recorded::new(session, writer);
     let mut clients = Vec::new(alloc);
     clients.push(Client::new(alloc, SYNC)).ok()?;
     let hub = MemoryHub::new(clients, 4096);

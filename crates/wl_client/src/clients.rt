@@ -63,7 +63,7 @@ impl<A: Allocator + Copy> Client<A> {
     ghost use Rattle.wl_client.specs.View.{cleared};
     ghost use Rattle.spec_desktop.specs.Stored.{stored};
     ghost use Rattle.wl_table.specs.Objects.{Finds, HoldsAt, entry_of};
-    ghost use Rattle.wl_store.specs.Stores.{next_after, picture_turned, store_at, write_refusal};
+    ghost use Rattle.wl_store.specs.Stores.{bytes_of, next_after, picture_turned, store_at, write_refusal};
     ghost use Rattle.wl_client.specs.Agreement.{IsPeer};
 
     /// A client that has just connected and is shown on this output. Its one object is wl_display.
@@ -474,6 +474,13 @@ impl<A: Allocator + Copy> Client<A> {
         ensures { result ≡ option_map (λ s. length s.bytes) (store_at store self.now.stores) }
     {
         self.stores.size(store)
+    }
+
+    /// The bytes of a store as they are now, if it is live.
+    pub fn store_bytes(&self, store: StoreNo) -> Option<&[u8]>
+        ensures { option_copied result ≡ bytes_of store self.now.stores }
+    {
+        self.stores.bytes(store)
     }
 
     /// The least number of a live store that is above this one, if there is one.

@@ -24,5 +24,6 @@ pub mod Screens
 pub mod Seats
 pub mod Shown
 pub mod Staying
+pub mod StoreBytes
 pub mod Touching
 pub mod View

@@ -8,6 +8,7 @@ ghost use Rattle.wl_paint.specs.Frame.{color_at, is_side};
 ghost use Rattle.spec_desktop.specs.Desktop.{Desktop, client_at, empty, status_in};
 ghost use Rattle.spec_desktop.specs.Act.{Connect, Store, Leave, Tick, Send, Close, lowest, peer_at, unsent_of, status_of, store_size_of};
 ghost use Rattle.wl_clients.specs.NextStore.{next_store_of};
+ghost use Rattle.wl_clients.specs.StoreBytes.{store_bytes_of};
 ghost use Rattle.wl_clients.specs.Agreeing.{Agrees, MarksNothing, MarksStep, TakesStep};
 ghost use Rattle.wl_clients.specs.Marking.{MarksAtLeast, MarksMost};
 ghost use Rattle.wl_clients.specs.Feeding.{Ends, IsIdleIn, kept_at, kept_while, rest_in};
@@ -262,6 +263,16 @@ impl<A: Allocator + Copy> Clients<A> {
             return None;
         };
         resident.client.store_size(store)
+    }
+
+    /// The bytes of a client's store as they are now.
+    pub fn store_bytes(&self, client: ClientNo, store: StoreNo) -> Option<&[u8]>
+        ensures { (d : Desktop) → Agrees self.now.desk d → option_copied result ≡ store_bytes_of store (peer_at client d) }
+    {
+        let Some(resident) = resident_of(&self.residents, client) else {
+            return None;
+        };
+        resident.client.store_bytes(store)
     }
 
     /// The least number of a client's live store that is above this one.

@@ -17,3 +17,4 @@ pub use Rattle.wl_clients.specs.Leading
 pub use Rattle.wl_clients.specs.Marking
 pub use Rattle.wl_clients.specs.NextStore
 pub use Rattle.wl_clients.specs.Shown
+pub use Rattle.wl_clients.specs.StoreBytes

@@ -18,6 +18,7 @@ ghost use Rattle.wl_clients.specs.Feeding.{IsIdleIn, kept_at, rest_in, served_of
 ghost use Rattle.wl_clients.specs.Leading.{Led};
 ghost use Rattle.wl_clients.specs.NextStore.{next_store_of};
 ghost use Rattle.wl_clients.specs.Pointing.{IsLatest};
+ghost use Rattle.wl_clients.specs.StoreBytes.{store_bytes_of};
 ghost use Rattle.wl_clients.specs.Touching.{ChangesNoHit};
 ghost use Rattle.wl_desk.specs.Agreeing.{Agrees, LeadsBy, MarksNothing};
 ghost use Rattle.wl_desk.specs.Beginning.{IsToMove};
@@ -326,6 +327,13 @@ impl<A: Allocator + Copy> Desk<A> {
         ensures { (d : Desktop) → Agrees self.now.desk d → result ≡ store_size_of store (peer_at client d) }
     {
         self.clients.store_size(client, store)
+    }
+
+    /// The bytes of a client's store as they are now.
+    pub fn store_bytes(&self, client: ClientNo, store: StoreNo) -> Option<&[u8]>
+        ensures { (d : Desktop) → Agrees self.now.desk d → option_copied result ≡ store_bytes_of store (peer_at client d) }
+    {
+        self.clients.store_bytes(client, store)
     }
 
     /// The least number of a client's live store that is above this one.

@@ -49,7 +49,7 @@ pub(crate) fn serve<'a, F: Files + Net + Clock + AllocGlobal, A: Allocator + Cop
     let viewer = bind_viewer(files, serve.viewer)?;
     let side = Folder::new(files, serve.dir);
     let session = session_of(alloc, serve.size)?;
-    let mut service = Service::new(recorded(alloc, session, record), hub, side, lines);
+    let mut service = Service::new(recorded(session, record), hub, side, lines);
     let schedule = Schedule {
         clock: files,
         pace: Pace {
@@ -75,17 +75,13 @@ pub(crate) fn serve<'a, F: Files + Net + Clock + AllocGlobal, A: Allocator + Cop
 }
 
 /// A session of which nothing was asked yet, which is recorded where there is a writer.
-fn recorded<A: Allocator + Copy, R: Write>(
-    alloc: A,
-    session: Session<A>,
-    writer: Option<R>,
-) -> Recorded<A, R>
+fn recorded<A: Allocator + Copy, R: Write>(session: Session<A>, writer: Option<R>) -> Recorded<A, R>
     requires { (width : ℕ) × (height : ℕ) × Agrees session.desk (empty (record { width = width; height = height })) }
     ensures session { result.session ≡ session }
     ensures recording { option_map (λ r. r.written.writer) result.recording ≡ writer }
 {
     match writer {
-        Some(writer) => Recorded::new(alloc, session, writer),
+        Some(writer) => Recorded::new(session, writer),
         None => Recorded::without(session),
     }
 }

@@ -3,7 +3,6 @@ pub mod Spelling
 pub mod LineEnds
 pub mod Digits
 pub mod Names
-pub mod PutPieces
 pub mod Ranged
 pub mod RangesRows
 pub mod WordsOf

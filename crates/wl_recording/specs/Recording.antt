@@ -96,8 +96,3 @@ abbrev pub stores : Option ℕ → Place → ℕ → List ℕ → List Asked
 stores None place from bytes = []
 stores (Some client) place from [] = []
 stores (Some client) place from (b ∷ bytes) = Store (record { client = client; store = place.store; at = place.at + from }) (b ∷ bytes) ∷ []
-
--- A part of the bytes that come into a client's store is written, from one byte to another.
-abbrev pub Puts : Option ℕ → Place → List ℕ → List Asked → Type 0
-Puts client place bytes asked =
-    (from : ℕ) × (to : ℕ) × (from ≤ to) × (to ≤ length bytes) × (asked ≡ stores client place from (take (to - from) (drop from bytes)))

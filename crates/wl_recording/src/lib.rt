@@ -3,7 +3,6 @@
 //! to wl_replay, and serving clients to wl_server.
 #![tactic(auto)]
 
-mod copies;
 mod differing;
 mod error;
 mod hex;
@@ -23,7 +22,6 @@ mod side;
 mod word;
 mod writing;
 
-pub use copies::Copies;
 pub use differing::difference;
 pub use error::{ReplayError, Summary};
 pub use image::write_image;

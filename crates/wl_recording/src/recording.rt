@@ -1,17 +1,15 @@
 //! A recording of what a server's clients do, and which client has which number in it.
 
-ghost use Rattle.std.specs.Prelude.{◌≡◌, ◌<◌, ◌≤◌, ◌+◌, ◌-◌, ◌^◌, ◌++◌, ◌∷◌, [], ℕ, List, None, IfSome, OnOk, Option, Some, drop, false, length, replicate, take};
-ghost use Rattle.std.specs.Io.KnownBytes.{Keeps};
+ghost use Rattle.std.specs.Prelude.{◌≡◌, ◌<◌, ◌≤◌, ◌+◌, ◌-◌, ◌^◌, ◌++◌, ◌∷◌, [], ℕ, List, None, OnOk, Option, Some, drop, false, length, replicate, take};
 ghost use Rattle.wl_recording.specs.Line.{Asked, Connect, meaning};
-ghost use Rattle.wl_recording.specs.Recording.{Feeds, HoldsTo, Puts, goes, joined, left, number_of, stores};
+ghost use Rattle.wl_recording.specs.Recording.{Differs, Feeds, HoldsTo, goes, joined, left, number_of, stores};
 
-use crate::copies::Copies;
+use crate::differing::difference;
 use crate::line::Line;
 use crate::place::Place;
 use crate::recorder::Recorder;
 use crate::roster::Roster;
 use crate::writing::PIECE_LIMIT;
-use std::alloc::Allocator;
 use std::io;
 use std::io::{ErrorKind, Write};
 use std::marker::Model;
@@ -19,14 +17,13 @@ use std::marker::Model;
 /// A recording of what a server's clients do. The calls name clients by their numbers in its
 /// session. After a failed write it writes nothing more.
 #[derive(Drop)]
-pub struct Recording<A: Allocator, W> {
+pub struct Recording<W> {
     recorder: Recorder<W>,
     roster: Roster,
-    copies: Copies<A>,
     has_failed: bool,
 }
 
-impl<A: Allocator, W> Model for Recording<A, W> {
+impl<W> Model for Recording<W> {
     ghost use Rattle.wl_recording.specs.Recording.{Recorded};
 
     ghost Value = { Recorded W };
@@ -34,15 +31,14 @@ impl<A: Allocator, W> Model for Recording<A, W> {
     ghost view = { λ r. record { written = r.recorder; clients = r.roster; has_failed = r.has_failed } };
 }
 
-impl<A: Allocator + Copy, W: Write> Recording<A, W> {
+impl<W: Write> Recording<W> {
     /// A recording of nothing, without clients.
-    pub fn new(alloc: A, writer: W) -> Recording<A, W>
+    pub fn new(writer: W) -> Recording<W>
         ensures { result ≡ record { written = record { writer = writer; lines = 0 }; clients = replicate 32 None; has_failed = false } }
     {
         Recording {
             recorder: Recorder::new(writer),
             roster: Roster::new(),
-            copies: Copies::new(alloc),
             has_failed: false,
         }
     }
@@ -69,34 +65,23 @@ impl<A: Allocator + Copy, W: Write> Recording<A, W> {
         }
     }
 
-    /// Bytes come into a client's store. The line has those that differ from what stood there, from
-    /// the first to the last.
-    pub fn store(&mut self, place: &Place, bytes: &[u8])
+    /// Bytes come into a client's store, which holds `held` in their place. The line has those that
+    /// differ, from the first to the last. If none does, there is no line.
+    pub fn store(&mut self, place: &Place, bytes: &[u8], held: &[u8])
         requires short { length bytes.now ≤ PIECE_LIMIT }
+        requires alike { length held.now ≡ length bytes.now }
         requires room { place.now.at + length bytes.now < 2 ^ 32 }
         ensures asked { (first : Option (List ℕ)) (asked : List Asked) → HoldsTo 1000000 W.contents first asked self.old
-            → (more : List Asked) × Puts (number_of place.now.client self.old.clients) place.now bytes.now more × HoldsTo 1000000 W.contents first (asked ++ more) self.new }
+            → (from : ℕ) × (to : ℕ) × Differs bytes.now held.now from to
+            × HoldsTo 1000000 W.contents first (asked ++ stores (number_of place.now.client self.old.clients) place.now from (take (to - from) (drop from bytes.now))) self.new }
         ensures clients { self.new.clients ≡ self.old.clients }
     {
+        let differs = difference(bytes, held);
+        let from = differs.start;
         if let Some(client) = self.roster.number(place.client) {
-            let differs = self.copies.put(place, bytes);
-            let from = differs.start;
-            self.store_there(client, place, from, &bytes[differs]);
+            let piece = &bytes[differs];
+            self.store_there(client, place, from, piece);
         }
-    }
-
-    /// The least number above this one of a store of this client that bytes came into.
-    pub fn next_store(&self, client: u32, number: u32) -> Option<u32>
-        ensures { IfSome result (λ next. number < next) }
-    {
-        self.copies.next_store(client, number)
-    }
-
-    /// Forgets a store of a client, which isn't there any more.
-    pub fn forget_store(&mut self, client: u32, store: u32)
-        ensures { self.new ≡ self.old }
-    {
-        self.copies.forget_store(client, store);
     }
 
     /// A client goes. It keeps its number until it leaves.
@@ -117,7 +102,6 @@ impl<A: Allocator + Copy, W: Write> Recording<A, W> {
         ensures clients { self.new.clients ≡ left client self.old.clients }
     {
         self.roster.leave(client);
-        self.copies.forget(client);
     }
 
     /// The number that a client of the session has in the recording. `None` if it has none.

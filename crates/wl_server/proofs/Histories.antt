@@ -12,7 +12,7 @@ use Rattle.wl_session.specs.Agreeing.{Agrees}
 use Rattle.wl_session.specs.Course.{AreParts, Course, TakesCourse, happenings, moment}
 use Rattle.wl_session.specs.Events.{Event, Moment}
 use Rattle.wl_session.specs.View.{SessionView}
-use Rattle.wl_server.specs.Recorded.{Flushes, GoesOn, History, HoldsNotes, IsRecorded, IsRecordedBy, Looks, Notes, NotesAct, NotesNext, NotesOf, OnBoth, begins, goes_on, looked, looked_up_to, no_notes}
+use Rattle.wl_server.specs.Recorded.{Flushes, GoesOn, History, HoldsNotes, IsRecorded, IsRecordedBy, Looks, Notes, NotesAct, NotesIn, NotesNext, NotesOf, OnBoth, begins, goes_on, looked, looked_up_to, no_notes}
 
 looked-none : {W : Type 0} (contents : W → Option (List ℕ)) (first : Option (List ℕ)) (d : Desktop) (notes : Notes) (r : Recorded W)
     → HoldsNotes contents first notes r → HoldsNotes contents first (looked 0 d notes) r
@@ -86,7 +86,7 @@ history-then start there given told before n a es first is _ _ _ _ (History.goes
     let again = looked-again looks joined.looks mid.desktop joined.last in
     let from : looked (suc looks) mid.desktop notes ≡ looked (suc again.0) mid.desktop joined.last =
     ap (λ (x : Notes). looked (suc looks) mid.desktop x) joined.same ∙ again.1 in
-    let whole = goes_on act done own again.0 joined.history happens parts leads (subst (λ (x : Notes). NotesAct act done x next) from noted) in
+    let whole = goes_on act done own again.0 joined.history happens parts leads (subst (λ (x : Notes). NotesAct mid.desktop act done x next) from noted) in
     record {
       looks = 0;
       last = next;
@@ -119,7 +119,7 @@ goes-looking contents start end a es r s t goes looks first notes holds =
     let x = goes first notes holds in
     (suc x.0, x.1, x.2, looked-more contents first x.0 end.desktop x.1 t (looks first (looked x.0 end.desktop x.1) x.3))
 
-noted-once : (act : Act) (done : Done) (d : Desktop) (notes next : Notes) → NotesAct act done (looked_up_to 32 d notes) next → NotesAct act done (looked (suc 0) d notes) next
+noted-once : (act : Act) (done : Done) (d : Desktop) (notes next : Notes) → NotesAct d act done (looked_up_to 32 d notes) next → NotesAct d act done (looked (suc 0) d notes) next
 unfolding looked
 noted-once act done d notes next noted = noted
 
@@ -158,19 +158,28 @@ goes-looking-on contents v start d a es r s t agrees =
 
 -- ---- what is noted of an act
 
+-- it is noted, whatever desktop it finds
+in-any : {W : Type 0} (contents : W → Option (List ℕ)) (v : SessionView) (act : Act) (done : Done) (r s : Option (Recorded W))
+    → OnBoth (NotesOf contents act done) r s → OnBoth (NotesIn contents v act done) r s
+in-any contents v act done r s = both-weaker (NotesOf contents act done) (NotesIn contents v act done) r s (λ a b notes d agrees. notes d)
+
 -- whoever ended is looked at, and then it is noted
+pub noted-in : {W : Type 0} (contents : W → Option (List ℕ)) (v : SessionView) (act : Act) (done : Done) (r s t : Option (Recorded W))
+    → OnBoth (Looks contents v) r s → OnBoth (NotesIn contents v act done) s t → OnBoth (NotesNext contents v act done) r t
+noted-in contents v act done r s t =
+    both-then (Looks contents v) (NotesIn contents v act done) (NotesNext contents v act done) r s t
+    (λ a b c looks notes d agrees first before holds. notes d agrees first (looked_up_to 32 d before) (looks d agrees first before holds))
+
 pub noted-behind : {W : Type 0} (contents : W → Option (List ℕ)) (v : SessionView) (act : Act) (done : Done) (r s t : Option (Recorded W))
     → OnBoth (Looks contents v) r s → OnBoth (NotesOf contents act done) s t → OnBoth (NotesNext contents v act done) r t
-noted-behind contents v act done r s t =
-    both-then (Looks contents v) (NotesOf contents act done) (NotesNext contents v act done) r s t
-    (λ a b c looks notes d agrees first before holds. notes first (looked_up_to 32 d before) (looks d agrees first before holds))
+noted-behind contents v act done r s t looks notes = noted-in contents v act done r s t looks (in-any contents v act done s t notes)
 
 -- the same of one of which nothing is noted
 pub noted-silently : {W : Type 0} (contents : W → Option (List ℕ)) (v : SessionView) (act : Act) (done : Done) (r s : Option (Recorded W))
-    → OnBoth (Looks contents v) r s → ((notes : Notes) → NotesAct act done notes notes) → OnBoth (NotesNext contents v act done) r s
+    → OnBoth (Looks contents v) r s → ((d : Desktop) (notes : Notes) → NotesAct d act done notes notes) → OnBoth (NotesNext contents v act done) r s
 noted-silently contents v act done r s looks quiet =
     both-weaker (Looks contents v) (NotesNext contents v act done) r s
-    (λ a b looks d agrees first before holds. (looked_up_to 32 d before, quiet (looked_up_to 32 d before), looks d agrees first before holds)) looks
+    (λ a b looks d agrees first before holds. (looked_up_to 32 d before, quiet d (looked_up_to 32 d before), looks d agrees first before holds)) looks
 
 pub flushed-behind : {W : Type 0} (contents : W → Option (List ℕ)) (v : SessionView) (r s t : Option (Recorded W))
     → OnBoth (Looks contents v) r s → OnBoth (Flushes contents) s t → OnBoth (Looks contents v) r t
@@ -185,11 +194,11 @@ on-ok (Err e) p = tt
 -- ---- a session goes on by an act, which is noted
 
 recorded-act : {W : Type 0} (contents : W → Option (List ℕ)) (act : Act) (done : Done) (old new : SessionView) (r s t : Recorded W)
-    → IsRecordedBy contents old r → Looks contents old r s → NotesOf contents act done s t → TakesCourse act done old new → IsRecordedBy contents new t
+    → IsRecordedBy contents old r → Looks contents old r s → NotesIn contents old act done s t → TakesCourse act done old new → IsRecordedBy contents new t
 recorded-act contents act done old new r s t was looks notes takes =
     let course = takes was.desktop was.agrees in
     let seen = looked-more contents was.first was.looks was.desktop was.notes s (looks was.desktop was.agrees was.first (looked was.looks was.desktop was.notes) was.holds) in
-    let noted = notes was.first (looked (suc was.looks) was.desktop was.notes) seen in
+    let noted = notes was.desktop was.agrees was.first (looked (suc was.looks) was.desktop was.notes) seen in
     record {
       width = was.width;
       height = was.height;
@@ -206,23 +215,27 @@ recorded-act contents act done old new r s t was looks notes takes =
       holds = looked-none contents was.first course.desktop noted.0 t noted.2;
     }
 
+pub recorded-in : {W : Type 0} (contents : W → Option (List ℕ)) (act : Act) (done : Done) (old new : SessionView) (r s t : Option (Recorded W))
+    → IsRecorded contents old r → OnBoth (Looks contents old) r s → OnBoth (NotesIn contents old act done) s t → TakesCourse act done old new → IsRecorded contents new t
+recorded-in contents act done old new None None None is looks notes takes = tt
+recorded-in contents act done old new None None (Some t) is looks notes takes = absurd notes
+recorded-in contents act done old new None (Some s) t is looks notes takes = absurd looks
+recorded-in contents act done old new (Some r) None t is looks notes takes = absurd looks
+recorded-in contents act done old new (Some r) (Some s) None is looks notes takes = absurd notes
+recorded-in contents act done old new (Some r) (Some s) (Some t) is looks notes takes = recorded-act contents act done old new r s t is looks notes takes
+
 pub recorded-on : {W : Type 0} (contents : W → Option (List ℕ)) (act : Act) (done : Done) (old new : SessionView) (r s t : Option (Recorded W))
     → IsRecorded contents old r → OnBoth (Looks contents old) r s → OnBoth (NotesOf contents act done) s t → TakesCourse act done old new → IsRecorded contents new t
-recorded-on contents act done old new None None None is looks notes takes = tt
-recorded-on contents act done old new None None (Some t) is looks notes takes = absurd notes
-recorded-on contents act done old new None (Some s) t is looks notes takes = absurd looks
-recorded-on contents act done old new (Some r) None t is looks notes takes = absurd looks
-recorded-on contents act done old new (Some r) (Some s) None is looks notes takes = absurd notes
-recorded-on contents act done old new (Some r) (Some s) (Some t) is looks notes takes = recorded-act contents act done old new r s t is looks notes takes
+recorded-on contents act done old new r s t is looks notes takes = recorded-in contents act done old new r s t is looks (in-any contents old act done s t notes) takes
 
 -- of which nothing is noted
-noted-none : {W : Type 0} (contents : W → Option (List ℕ)) (act : Act) (done : Done) (r : Option (Recorded W)) → ((notes : Notes) → NotesAct act done notes notes)
+noted-none : {W : Type 0} (contents : W → Option (List ℕ)) (act : Act) (done : Done) (r : Option (Recorded W)) → ((d : Desktop) (notes : Notes) → NotesAct d act done notes notes)
     → OnBoth (NotesOf contents act done) r r
 noted-none contents act done None quiet = tt
-noted-none contents act done (Some r) quiet = λ first notes holds. (notes, quiet notes, holds)
+noted-none contents act done (Some r) quiet = λ d first notes holds. (notes, quiet d notes, holds)
 
 pub recorded-quiet : {W : Type 0} (contents : W → Option (List ℕ)) (act : Act) (done : Done) (old new : SessionView) (r s : Option (Recorded W))
-    → IsRecorded contents old r → OnBoth (Looks contents old) r s → ((notes : Notes) → NotesAct act done notes notes) → TakesCourse act done old new → IsRecorded contents new s
+    → IsRecorded contents old r → OnBoth (Looks contents old) r s → ((d : Desktop) (notes : Notes) → NotesAct d act done notes notes) → TakesCourse act done old new → IsRecorded contents new s
 recorded-quiet contents act done old new r s is looks quiet takes = recorded-on contents act done old new r s s is looks (noted-none contents act done s quiet) takes
 
 -- ---- what was written isn't held back

@@ -1,20 +1,16 @@
 -- What is noted of an act, by what its recording says of itself.
-use Rattle.std.proofs.Common.{◌≡◌, ◌+◌, ◌∙◌, ◌^◌, ℕ, ℤ, suc, Bool, true, false, List, [], ◌∷◌, ◌++◌, Option, Some, None, Ok, Err, refl, ap, sym, subst, length, add-one, append-nil, arith}
-use Rattle.std.specs.Prelude.{nat_lt}
+use Rattle.std.proofs.Common.{◌≡◌, ◌+◌, ◌-◌, ◌∙◌, ℕ, ℤ, suc, List, [], ◌∷◌, ◌++◌, Option, Some, None, Ok, refl, ap, sym, subst, drop, length, take, add-one}
 use Rattle.spec_desktop.specs.Act.{Act, Connect, Feed, Leave, Motion, Store, peer_at, status_of}
 use Rattle.spec_desktop.specs.Desktop.{Desktop}
-use Rattle.spec_desktop.specs.declared.answers.ConnectError.{ConnectError}
 use Rattle.spec_desktop.specs.declared.answers.Done.{Done}
 use Rattle.spec_desktop.specs.declared.answers.Done.TheVariants as gave
 use Rattle.spec_desktop.specs.declared.answers.Fed.{Fed}
-use Rattle.spec_desktop.specs.declared.answers.Fed.TheVariants.{Ended}
-use Rattle.spec_desktop.specs.declared.answers.Stored.TheVariants as stored
-use Rattle.spec_desktop.specs.declared.cause.Cause.{Cause}
 use Rattle.wl_recording.specs.Line as line
 use Rattle.wl_recording.specs.Line.{Asked}
-use Rattle.wl_recording.specs.Recording.{Feeds, HoldsTo, Puts, Recorded, goes, joined, left, number_of}
+use Rattle.wl_recording.specs.Recording.{Differs, Feeds, HoldsTo, Recorded, goes, joined, number_of, stores}
 use Rattle.wl_recording.specs.declared.place.Place.{Place}
-use Rattle.wl_server.specs.Recorded.{HoldsNotes, Notes, NotesAct, NotesOf, NotesStored, OnBoth, looked_at, looked_up_to, outlasts, with_lines}
+use Rattle.wl_session.specs.StoreBytes.{store_bytes_of}
+use Rattle.wl_server.specs.Recorded.{HoldsNotes, Notes, NotesAct, NotesAt, NotesOf, NotesPut, OnBoth, held_at, looked_at, looked_up_to, with_lines}
 
 -- ---- where there is a recording, and where there is none
 
@@ -48,12 +44,12 @@ up-to-more {W} contents first k client status d notes r is stands holds =
 
 -- what asks one thing is a line
 pub noted-one : {W : Type 0} (contents : W → Option (List ℕ)) (act : Act) (done : Done) (a : Asked) (r s : Recorded W)
-    → ((notes : Notes) → NotesAct act done notes (with_lines (a ∷ []) notes))
+    → ((d : Desktop) (notes : Notes) → NotesAct d act done notes (with_lines (a ∷ []) notes))
     → ((first : Option (List ℕ)) (asked : List Asked) → HoldsTo 1000000 contents first asked r → HoldsTo 1000000 contents first (asked ++ a ∷ []) s)
     → s.clients ≡ r.clients → NotesOf contents act done r s
-noted-one contents act done a r s is writes clients = λ first notes holds. (
+noted-one contents act done a r s is writes clients = λ d first notes holds. (
   with_lines (a ∷ []) notes,
-  is notes,
+  is d notes,
   record { clients = clients ∙ holds.clients; holds = writes first notes.asked holds.holds },
 )
 
@@ -68,15 +64,16 @@ pub noted-motion : {W : Type 0} (contents : W → Option (List ℕ)) (time : ℕ
 unfolding LineOf
 noted-motion contents time x y kept_x kept_y r s is_x is_y writes clients =
     let there = subst (λ (b : ℤ). LineOf contents time kept_x b r s) is_y writes in
-    noted-one contents (Motion time x y) gave.Motion (line.Motion time x y) r s (λ notes. refl) (subst (λ (a : ℤ). LineOf contents time a y r s) is_x there) clients
+    noted-one contents (Motion time x y) gave.Motion (line.Motion time x y) r s (λ d notes. refl) (subst (λ (a : ℤ). LineOf contents time a y r s) is_x there) clients
 
-pub noted-nothing : {W : Type 0} (contents : W → Option (List ℕ)) (act : Act) (done : Done) (r : Recorded W) → ((notes : Notes) → NotesAct act done notes notes) → NotesOf contents act done r r
-noted-nothing contents act done r is = λ first notes holds. (notes, is notes, holds)
+pub noted-nothing : {W : Type 0} (contents : W → Option (List ℕ)) (act : Act) (done : Done) (r : Recorded W) → ((d : Desktop) (notes : Notes) → NotesAct d act done notes notes)
+    → NotesOf contents act done r r
+noted-nothing contents act done r is = λ d first notes holds. (notes, is d notes, holds)
 
 pub noted-connect : {W : Type 0} (contents : W → Option (List ℕ)) (client : ℕ) (r s : Recorded W)
     → ((first : Option (List ℕ)) (asked : List Asked) → HoldsTo 1000000 contents first asked r → HoldsTo 1000000 contents first (asked ++ line.Connect ∷ []) s)
     → s.clients ≡ joined client r.clients → NotesOf contents Connect (gave.Connect (Ok client)) r s
-noted-connect contents client r s writes clients = λ first notes holds. (
+noted-connect contents client r s writes clients = λ d first notes holds. (
   record { asked = notes.asked ++ line.Connect ∷ []; clients = joined client notes.clients },
   refl,
   record { clients = clients ∙ ap (joined client) holds.clients; holds = writes first notes.asked holds.holds },
@@ -86,7 +83,7 @@ pub noted-fed : {W : Type 0} (contents : W → Option (List ℕ)) (client : ℕ)
     → ((first : Option (List ℕ)) (asked : List Asked) → HoldsTo 1000000 contents first asked r
     → (more : List Asked) × Feeds (number_of client r.clients) piece more × HoldsTo 1000000 contents first (asked ++ more) s)
     → s.clients ≡ r.clients → NotesOf contents (Feed client piece) done r s
-noted-fed contents client piece done r s writes clients = λ first notes holds.
+noted-fed contents client piece done r s writes clients = λ d first notes holds.
     let wrote = writes first notes.asked holds.holds in (
       with_lines wrote.0 notes,
       (wrote.0, subst (λ (cs : List (Option ℕ)). Feeds (number_of client cs) piece wrote.0) holds.clients wrote.1, refl),
@@ -96,7 +93,7 @@ noted-fed contents client piece done r s writes clients = λ first notes holds.
 pub noted-gone : {W : Type 0} (contents : W → Option (List ℕ)) (client : ℕ) (done : Done) (r s : Recorded W)
     → ((first : Option (List ℕ)) (asked : List Asked) → HoldsTo 1000000 contents first asked r → HoldsTo 1000000 contents first (asked ++ goes (number_of client r.clients)) s)
     → s.clients ≡ r.clients → NotesOf contents (Leave client) done r s
-noted-gone contents client done r s writes clients = λ first notes holds. (
+noted-gone contents client done r s writes clients = λ d first notes holds. (
   with_lines (goes (number_of client notes.clients)) notes,
   refl,
   record {
@@ -107,23 +104,27 @@ noted-gone contents client done r s writes clients = λ first notes holds. (
 
 -- ---- bytes of a store
 
-pub noted-put : {W : Type 0} (contents : W → Option (List ℕ)) (place : Place) (bytes : List ℕ) (r s : Recorded W)
-    → nat_lt (place.at + length bytes) (2 ^ 32) ≡ true
+LinesOf : {W : Type 0} → (W → Option (List ℕ)) → Option (List ℕ) → List Asked → Place → ℕ → List ℕ → Recorded W → List (Option ℕ) → Type 0
+LinesOf contents first asked place from piece s clients = HoldsTo 1000000 contents first (asked ++ stores (number_of place.client clients) place from piece) s
+
+pub noted-put : {W : Type 0} (contents : W → Option (List ℕ)) (d : Desktop) (place : Place) (bytes held : List ℕ) (done : Done) (r s : Recorded W)
+    → Some held ≡ held_at place.at (length bytes) (store_bytes_of place.store (peer_at place.client d))
     → ((first : Option (List ℕ)) (asked : List Asked) → HoldsTo 1000000 contents first asked r
-    → (more : List Asked) × Puts (number_of place.client r.clients) place bytes more × HoldsTo 1000000 contents first (asked ++ more) s)
-    → s.clients ≡ r.clients
-    → (first : Option (List ℕ)) (notes : Notes) → HoldsNotes contents first notes r
-    → (next : Notes) × NotesStored (gave.Store stored.Done) place bytes notes next × HoldsNotes contents first next s
-noted-put contents place bytes r s fits writes clients = λ first notes holds.
+    → (from : ℕ) × (to : ℕ) × Differs bytes held from to
+    × HoldsTo 1000000 contents first (asked ++ stores (number_of place.client r.clients) place from (take (to - from) (drop from bytes))) s)
+    → s.clients ≡ r.clients → NotesAt contents d (Store place.client place.store place.at bytes) done r s
+unfolding LinesOf
+noted-put contents d place bytes held done r s is writes clients = λ first notes holds.
     let wrote = writes first notes.asked holds.holds in
-    let put = subst (λ (cs : List (Option ℕ)). Puts (number_of place.client cs) place bytes wrote.0) holds.clients wrote.1 in (
-      with_lines wrote.0 notes,
-      rw fits (wrote.0, put, refl),
-      record { clients = clients ∙ holds.clients; holds = wrote.2 },
+    let piece = take (wrote.1 - wrote.0) (drop wrote.0 bytes) in
+    let next = with_lines (stores (number_of place.client notes.clients) place wrote.0 piece) notes in (
+      next,
+      subst (λ (h : Option (List ℕ)). NotesPut place bytes h notes next) is (wrote.0, wrote.1, wrote.2, refl),
+      record { clients = clients ∙ holds.clients; holds = subst (LinesOf contents first notes.asked place wrote.0 piece s) holds.clients wrote.3 },
     )
 
-pub noted-unput : {W : Type 0} (contents : W → Option (List ℕ)) (place : Place) (bytes : List ℕ) (r : Recorded W)
-    → nat_lt (place.at + length bytes) (2 ^ 32) ≡ false
-    → (first : Option (List ℕ)) (notes : Notes) → HoldsNotes contents first notes r
-    → (next : Notes) × NotesStored (gave.Store stored.Done) place bytes notes next × HoldsNotes contents first next r
-noted-unput contents place bytes r fits = λ first notes holds. (notes, rw fits refl, holds)
+pub noted-unput : {W : Type 0} (contents : W → Option (List ℕ)) (d : Desktop) (place : Place) (bytes : List ℕ) (done : Done) (r : Recorded W)
+    → None ≡ held_at place.at (length bytes) (store_bytes_of place.store (peer_at place.client d))
+    → NotesAt contents d (Store place.client place.store place.at bytes) done r r
+noted-unput contents d place bytes done r is = λ first notes holds.
+    (notes, subst (λ (h : Option (List ℕ)). NotesPut place bytes h notes notes) is refl, holds)

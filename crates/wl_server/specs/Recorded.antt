@@ -1,5 +1,5 @@
 -- The recording of what was asked of a session: which lines stand in it.
-use Rattle.std.specs.Prelude.{ℕ, zero, suc, ◌≡◌, ◌+◌, ◌^◌, ⊤, Bool, true, false, nat_lt, List, [], ◌∷◌, ◌++◌, length, replicate}
+use Rattle.std.specs.Prelude.{ℕ, zero, suc, ◌≡◌, ◌+◌, ◌-◌, ⊤, Bool, true, false, nat_le, if◌then◌else◌, List, [], ◌∷◌, ◌++◌, drop, length, replicate, take}
 use Rattle.std.specs.Prelude.{Option, Some, None, Ok}
 use Rattle.spec_desktop.specs.Act.{Act, Connect, Feed, Store, Leave, Tick, Send, Close, Motion, Button, peer_at, status_of}
 use Rattle.spec_desktop.specs.Desktop.{Desktop, empty}
@@ -8,16 +8,16 @@ use Rattle.spec_desktop.specs.declared.answers.Done.{Done}
 use Rattle.spec_desktop.specs.declared.answers.Done.TheVariants as gave
 use Rattle.spec_desktop.specs.declared.answers.Fed.{Fed}
 use Rattle.spec_desktop.specs.declared.answers.Fed.TheVariants.{Alive, Ended, NoClient}
-use Rattle.spec_desktop.specs.declared.answers.Stored.TheVariants as stored
 use Rattle.spec_desktop.specs.declared.cause.Cause.{Cause}
 use Rattle.spec_desktop.specs.declared.cause.Cause.TheVariants as cause
 use Rattle.wl_recording.specs.Line as line
 use Rattle.wl_recording.specs.Line.{Asked}
-use Rattle.wl_recording.specs.Recording.{Feeds, HoldsTo, Puts, Recorded, goes, joined, left, number_of}
+use Rattle.wl_recording.specs.Recording.{Differs, Feeds, HoldsTo, Recorded, goes, joined, left, number_of, stores}
 use Rattle.wl_recording.specs.declared.place.Place.{Place}
 use Rattle.wl_session.specs.Agreeing.{Agrees}
 use Rattle.wl_session.specs.Course.{AreParts, happenings, moment}
 use Rattle.wl_session.specs.Events.{AreEvents, Event, Moment}
+use Rattle.wl_session.specs.StoreBytes.{store_bytes_of}
 use Rattle.wl_session.specs.View.{SessionView}
 
 -- what the lines so far ask, and which client of the session has which number there
@@ -70,29 +70,33 @@ abbrev pub NotesConnected : Done → Notes → Notes → Type 0
 NotesConnected (gave.Connect (Ok client)) from to = to ≡ record { asked = from.asked ++ line.Connect ∷ []; clients = joined client from.clients }
 NotesConnected done from to = to ≡ from
 
--- bytes that came into a store
-abbrev pub NotesPut : Bool → Place → List ℕ → Notes → Notes → Type 0
-NotesPut true place bytes from to = (more : List Asked) × Puts (number_of place.client from.clients) place bytes more × (to ≡ with_lines more from)
-NotesPut false place bytes from to = to ≡ from
+-- what a store holds from its byte `at` on, so many bytes, if that is all within it
+abbrev pub held_at : ℕ → ℕ → Option (List ℕ) → Option (List ℕ)
+held_at at count None = None
+held_at at count (Some held) = if nat_le (at + count) (length held) then Some (take count (drop at held)) else None
 
--- the same of bytes that may have come there; a store ends before its byte 2^32
-abbrev pub NotesStored : Done → Place → List ℕ → Notes → Notes → Type 0
-NotesStored (gave.Store stored.Done) place bytes from to = NotesPut (nat_lt (place.at + length bytes) (2 ^ 32)) place bytes from to
-NotesStored done place bytes from to = to ≡ from
+-- Of bytes that come into a store those are noted that differ from what it holds in their place, from
+-- the first to the last. Nothing is noted where they pass its end, or where it isn't live.
+abbrev pub NotesPut : Place → List ℕ → Option (List ℕ) → Notes → Notes → Type 0
+NotesPut place bytes None from to = to ≡ from
+NotesPut place bytes (Some held) from to =
+    (first : ℕ) × (last : ℕ) × Differs bytes held first last
+    × (to ≡ with_lines (stores (number_of place.client from.clients) place first (take (last - first) (drop first bytes))) from)
 
--- What is noted of an act, by its answer: nothing of bytes that were sent, and of a number that is given back.
-abbrev pub NotesAct : Act → Done → Notes → Notes → Type 0
-NotesAct Connect done from to = NotesConnected done from to
-NotesAct (Feed client piece) done from to =
+-- What is noted of an act, by the desktop that it finds and by its answer. Nothing is noted of bytes
+-- that were sent, and of a number that is given back.
+abbrev pub NotesAct : Desktop → Act → Done → Notes → Notes → Type 0
+NotesAct d Connect done from to = NotesConnected done from to
+NotesAct d (Feed client piece) done from to =
     (more : List Asked) × Feeds (number_of client from.clients) piece more × (to ≡ with_lines more from)
-NotesAct (Store client store at bytes) done from to =
-    NotesStored done (record { client = client; store = store; at = at }) bytes from to
-NotesAct (Leave client) done from to = to ≡ with_lines (goes (number_of client from.clients)) from
-NotesAct (Tick time) done from to = to ≡ with_lines (line.Tick time ∷ []) from
-NotesAct (Send client count) done from to = to ≡ from
-NotesAct (Close client) done from to = to ≡ from
-NotesAct (Motion time x y) done from to = to ≡ with_lines (line.Motion time x y ∷ []) from
-NotesAct (Button time button pressed) done from to = to ≡ with_lines (line.Button time button pressed ∷ []) from
+NotesAct d (Store client store at bytes) done from to =
+    NotesPut (record { client = client; store = store; at = at }) bytes (held_at at (length bytes) (store_bytes_of store (peer_at client d))) from to
+NotesAct d (Leave client) done from to = to ≡ with_lines (goes (number_of client from.clients)) from
+NotesAct d (Tick time) done from to = to ≡ with_lines (line.Tick time ∷ []) from
+NotesAct d (Send client count) done from to = to ≡ from
+NotesAct d (Close client) done from to = to ≡ from
+NotesAct d (Motion time x y) done from to = to ≡ with_lines (line.Motion time x y ∷ []) from
+NotesAct d (Button time button pressed) done from to = to ≡ with_lines (line.Button time button pressed ∷ []) from
 
 -- A session went on from a moment by these acts, each with its events, and the notes of them stand behind those before: each act is noted behind
 -- those that ended before it.
@@ -101,7 +105,7 @@ pub data History (start : Moment) (before : Notes) : List Act → List Event →
   goes_on : {acts : List Act} {events : List Event} {notes next : Notes} {mid end : Moment} (act : Act) (done : Done) (first : List Event) (looks : ℕ)
       → History start before acts events notes mid
       → Happens act done mid.desktop end.desktop → AreParts act done (happenings first) → AreEvents mid first end
-      → NotesAct act done (looked (suc looks) mid.desktop notes) next
+      → NotesAct mid.desktop act done (looked (suc looks) mid.desktop notes) next
       → History start before (acts ++ act ∷ []) (events ++ first) next end
 
 -- Behind what its writer held at first a recording holds these notes, unless a write failed: a line for each thing that they ask, 1,000,000 at
@@ -151,17 +155,25 @@ Looks contents session old new =
     (d : Desktop) → Agrees session.desk d → (first : Option (List ℕ)) (notes : Notes)
     → HoldsNotes contents first notes old → HoldsNotes contents first (looked_up_to 32 d notes) new
 
--- an act is noted
-abbrev pub NotesOf : {W : Type 0} → (W → Option (List ℕ)) → Act → Done → Recorded W → Recorded W → Type 0
-NotesOf contents act done old new =
+-- an act is noted that finds this desktop
+abbrev pub NotesAt : {W : Type 0} → (W → Option (List ℕ)) → Desktop → Act → Done → Recorded W → Recorded W → Type 0
+NotesAt contents d act done old new =
     (first : Option (List ℕ)) (notes : Notes) → HoldsNotes contents first notes old
-    → (next : Notes) × NotesAct act done notes next × HoldsNotes contents first next new
+    → (next : Notes) × NotesAct d act done notes next × HoldsNotes contents first next new
+
+-- an act is noted, whatever desktop it finds
+abbrev pub NotesOf : {W : Type 0} → (W → Option (List ℕ)) → Act → Done → Recorded W → Recorded W → Type 0
+NotesOf contents act done old new = (d : Desktop) → NotesAt contents d act done old new
+
+-- an act of a session is noted
+abbrev pub NotesIn : {W : Type 0} → (W → Option (List ℕ)) → SessionView → Act → Done → Recorded W → Recorded W → Type 0
+NotesIn contents session act done old new = (d : Desktop) → Agrees session.desk d → NotesAt contents d act done old new
 
 -- an act of a session is noted behind those that ended before it
 abbrev pub NotesNext : {W : Type 0} → (W → Option (List ℕ)) → SessionView → Act → Done → Recorded W → Recorded W → Type 0
 NotesNext contents session act done old new =
     (d : Desktop) → Agrees session.desk d → (first : Option (List ℕ)) (notes : Notes) → HoldsNotes contents first notes old
-    → (next : Notes) × NotesAct act done (looked_up_to 32 d notes) next × HoldsNotes contents first next new
+    → (next : Notes) × NotesAct d act done (looked_up_to 32 d notes) next × HoldsNotes contents first next new
 
 -- it is noted in the recording, if there is one
 abbrev pub IsNoted : {W : Type 0} → (W → Option (List ℕ)) → Act → Done → RecordedView W → RecordedView W → Type 0

@@ -1,21 +1,24 @@
 //! What is noted in the recording of a session, if there is one.
 
-ghost use Rattle.std.specs.Prelude.{◌≡◌, ◌≤◌, ℕ, List, Option, OnOk, length};
-ghost use Rattle.spec_desktop.specs.Act.{Button, Connect, Feed, Leave, Motion, Store, Tick};
+ghost use Rattle.std.specs.Option.{option_copied};
+ghost use Rattle.std.specs.Prelude.{◌≡◌, ◌+◌, ◌-◌, ◌<◌, ◌≤◌, ◌^◌, ℕ, IfSome, List, Option, OnOk, Some, length};
+ghost use Rattle.spec_desktop.specs.Act.{Button, Connect, Feed, Leave, Motion, Store, Tick, peer_at};
+ghost use Rattle.spec_desktop.specs.Desktop.{Desktop};
 ghost use Rattle.spec_desktop.specs.declared.answers.Done.{Done};
 ghost use Rattle.spec_desktop.specs.declared.answers.Fed.{Fed};
-ghost use Rattle.spec_desktop.specs.declared.answers.Stored.{Stored};
-ghost use Rattle.wl_server.specs.Recorded.{Flushes, HoldsNotes, IsWhole, Looks, Notes, NotesOf, OnBoth, looked_at, outlasts};
+ghost use Rattle.wl_session.specs.StoreBytes.{store_bytes_of};
+ghost use Rattle.wl_server.specs.Agreeing.{Agrees};
+ghost use Rattle.wl_server.specs.Recorded.{Flushes, HoldsNotes, IsWhole, Looks, Notes, NotesIn, NotesOf, OnBoth, held_at, looked_at, outlasts};
 
 use crate::error::{TurnError, write_failed};
 use std::alloc::Allocator;
 use std::io::Write;
 use wl_recording::{Line, Place, Recording};
-use wl_session::{Cause, ClientNo, ConnectError, Fed, MAX_CLIENTS, Session, Stored};
+use wl_session::{Cause, ClientNo, ConnectError, Fed, MAX_CLIENTS, Session};
 
 /// Whoever ended in the session has no number in the recording any more.
 pub(crate) fn settle<A: Allocator + Copy, R: Write>(
-    recording: &mut Option<Recording<A, R>>,
+    recording: &mut Option<Recording<R>>,
     session: &Session<A>,
 )
     ensures { OnBoth (Looks R.contents session.now) recording.old recording.new }
@@ -25,7 +28,7 @@ pub(crate) fn settle<A: Allocator + Copy, R: Write>(
     }
 }
 
-fn look_at_all<A: Allocator + Copy, R: Write>(recording: &mut Recording<A, R>, session: &Session<A>)
+fn look_at_all<A: Allocator + Copy, R: Write>(recording: &mut Recording<R>, session: &Session<A>)
     ensures { Looks R.contents session.now recording.old recording.new }
 {
     for place in 0..MAX_CLIENTS {
@@ -35,11 +38,7 @@ fn look_at_all<A: Allocator + Copy, R: Write>(recording: &mut Recording<A, R>, s
 }
 
 /// Who ended has no number there any more.
-fn look_at<A: Allocator + Copy, R: Write>(
-    recording: &mut Recording<A, R>,
-    client: ClientNo,
-    status: Fed,
-)
+fn look_at<R: Write>(recording: &mut Recording<R>, client: ClientNo, status: Fed)
     ensures { (first : Option (List ℕ)) (notes : Notes) → HoldsNotes R.contents first notes recording.old
         → HoldsNotes R.contents first (looked_at client status notes) recording.new }
 {
@@ -51,11 +50,7 @@ fn look_at<A: Allocator + Copy, R: Write>(
 }
 
 /// Who ended for this cause has no number there any more. Where a replay wouldn't end it, it goes.
-fn end_there<A: Allocator + Copy, R: Write>(
-    recording: &mut Recording<A, R>,
-    client: ClientNo,
-    cause: Cause,
-)
+fn end_there<R: Write>(recording: &mut Recording<R>, client: ClientNo, cause: Cause)
     ensures { (first : Option (List ℕ)) (notes : Notes) → HoldsNotes R.contents first notes recording.old
         → HoldsNotes R.contents first (looked_at client (Fed.Ended cause) notes) recording.new }
 {
@@ -78,38 +73,9 @@ fn outlasts(cause: Cause) -> bool
     }
 }
 
-/// Of stores that a client hasn't any more nothing is kept.
-pub(crate) fn forget_dead<A: Allocator + Copy, R: Write>(
-    recording: &mut Option<Recording<A, R>>,
-    session: &Session<A>,
-    client: ClientNo,
-)
-    ensures { recording.new ≡ recording.old }
-{
-    if let Some(recording) = recording {
-        forget_stores(recording, session, client);
-    }
-}
-
-fn forget_stores<A: Allocator + Copy, R: Write>(
-    recording: &mut Recording<A, R>,
-    session: &Session<A>,
-    client: ClientNo,
-)
-    ensures { recording.new ≡ recording.old }
-{
-    let mut number = 0;
-    while let Some(store) = recording.next_store(client, number) {
-        if session.store_size(client, store).is_none() {
-            recording.forget_store(client, store);
-        }
-        number = store;
-    }
-}
-
 /// A client connected, or couldn't.
-pub(crate) fn note_connect<A: Allocator + Copy, R: Write>(
-    recording: &mut Option<Recording<A, R>>,
+pub(crate) fn note_connect<R: Write>(
+    recording: &mut Option<Recording<R>>,
     connected: Result<ClientNo, ConnectError>,
 )
     ensures { OnBoth (NotesOf R.contents Connect (Done.Connect connected)) recording.old recording.new }
@@ -119,10 +85,7 @@ pub(crate) fn note_connect<A: Allocator + Copy, R: Write>(
     }
 }
 
-fn note_connected<A: Allocator + Copy, R: Write>(
-    recording: &mut Recording<A, R>,
-    connected: Result<ClientNo, ConnectError>,
-)
+fn note_connected<R: Write>(recording: &mut Recording<R>, connected: Result<ClientNo, ConnectError>)
     ensures { NotesOf R.contents Connect (Done.Connect connected) recording.old recording.new }
 {
     match connected {
@@ -132,8 +95,8 @@ fn note_connected<A: Allocator + Copy, R: Write>(
 }
 
 /// A piece of a client's stream comes.
-pub(crate) fn note_fed<A: Allocator + Copy, R: Write>(
-    recording: &mut Option<Recording<A, R>>,
+pub(crate) fn note_fed<R: Write>(
+    recording: &mut Option<Recording<R>>,
     client: ClientNo,
     piece: &[u8],
 )
@@ -144,57 +107,71 @@ pub(crate) fn note_fed<A: Allocator + Copy, R: Write>(
     }
 }
 
-/// Bytes came into a store, or couldn't.
-pub(crate) fn note_stored<A: Allocator + Copy, R: Write>(
-    recording: &mut Option<Recording<A, R>>,
+/// Bytes come into a store. Noted are those that differ from what it holds in their place.
+pub(crate) fn note_store<A: Allocator + Copy, R: Write>(
+    recording: &mut Option<Recording<R>>,
+    session: &Session<A>,
     place: &Place,
     bytes: &[u8],
-    stored: Stored,
 )
     requires { length bytes.now ≤ 4096 }
-    ensures { OnBoth (NotesOf R.contents (Store place.now.client place.now.store place.now.at bytes.now) (Done.Store stored)) recording.old recording.new }
+    ensures { (done : Done) → OnBoth (NotesIn R.contents session.now (Store place.now.client place.now.store place.now.at bytes.now) done) recording.old recording.new }
 {
     if let Some(recording) = recording {
-        note_put_if(recording, place, bytes, stored);
-    }
-}
-
-fn note_put_if<A: Allocator + Copy, R: Write>(
-    recording: &mut Recording<A, R>,
-    place: &Place,
-    bytes: &[u8],
-    stored: Stored,
-)
-    requires { length bytes.now ≤ 4096 }
-    ensures { NotesOf R.contents (Store place.now.client place.now.store place.now.at bytes.now) (Done.Store stored) recording.old recording.new }
-{
-    match stored {
-        Stored::Done => note_put(recording, place, bytes),
-        Stored::NoClient => {}
-        Stored::NoStore => {}
-        Stored::OutOfRange => {}
+        note_put(recording, session, place, bytes);
     }
 }
 
 fn note_put<A: Allocator + Copy, R: Write>(
-    recording: &mut Recording<A, R>,
+    recording: &mut Recording<R>,
+    session: &Session<A>,
     place: &Place,
     bytes: &[u8],
 )
     requires { length bytes.now ≤ 4096 }
-    ensures { NotesOf R.contents (Store place.now.client place.now.store place.now.at bytes.now) (Done.Store Stored.Done) recording.old recording.new }
+    ensures { (done : Done) → NotesIn R.contents session.now (Store place.now.client place.now.store place.now.at bytes.now) done recording.old recording.new }
 {
-    let room = (u32::MAX - place.at) as usize;
-    if bytes.len() <= room {
-        recording.store(place, bytes);
+    if let Some(held) = held_at(session, place, bytes.len()) {
+        recording.store(place, bytes, held);
     }
 }
 
+/// What a store holds from a place on, so many bytes. None if they pass its end, or if the client
+/// or the store isn't live.
+fn held_at<'a, A: Allocator + Copy>(
+    session: &'a Session<A>,
+    place: &Place,
+    count: usize,
+) -> Option<&'a [u8]>
+    requires { count ≤ 4096 }
+    ensures held { (d : Desktop) → Agrees session.now.desk d
+        → option_copied result ≡ held_at place.now.at count (store_bytes_of place.now.store (peer_at place.now.client d)) }
+    ensures len { IfSome result (λ held. length held.now ≡ count) }
+    ensures room { IfSome result (λ held. place.now.at + count < 2 ^ 32) }
+{
+    let size = session.store_size(place.client, place.store)?;
+    let from = place.at as usize;
+    let end = from + count;
+    if end > size as usize {
+        return None;
+    }
+    part(session.store_bytes(place.client, place.store)?, from, end)
+}
+
+/// The bytes from one place to another. None if they pass the end.
+fn part(bytes: &[u8], from: usize, end: usize) -> Option<&[u8]>
+    requires { from ≤ end }
+    ensures held { option_copied result ≡ held_at from (end - from) (Some bytes.now) }
+    ensures len { IfSome result (λ held. length held.now ≡ end - from) }
+{
+    if bytes.len() < end {
+        return None;
+    }
+    Some(&bytes[from..end])
+}
+
 /// A client goes.
-pub(crate) fn note_gone<A: Allocator + Copy, R: Write>(
-    recording: &mut Option<Recording<A, R>>,
-    client: ClientNo,
-)
+pub(crate) fn note_gone<R: Write>(recording: &mut Option<Recording<R>>, client: ClientNo)
     ensures { (done : Done) → OnBoth (NotesOf R.contents (Leave client) done) recording.old recording.new }
 {
     if let Some(recording) = recording {
@@ -203,10 +180,7 @@ pub(crate) fn note_gone<A: Allocator + Copy, R: Write>(
 }
 
 /// A frame is shown.
-pub(crate) fn note_tick<A: Allocator + Copy, R: Write>(
-    recording: &mut Option<Recording<A, R>>,
-    time: u32,
-)
+pub(crate) fn note_tick<R: Write>(recording: &mut Option<Recording<R>>, time: u32)
     ensures { OnBoth (NotesOf R.contents (Tick time) Done.Tick) recording.old recording.new }
 {
     if let Some(recording) = recording {
@@ -215,12 +189,7 @@ pub(crate) fn note_tick<A: Allocator + Copy, R: Write>(
 }
 
 /// The pointer goes to a point.
-pub(crate) fn note_motion<A: Allocator + Copy, R: Write>(
-    recording: &mut Option<Recording<A, R>>,
-    time: u32,
-    x: i32,
-    y: i32,
-)
+pub(crate) fn note_motion<R: Write>(recording: &mut Option<Recording<R>>, time: u32, x: i32, y: i32)
     ensures { OnBoth (NotesOf R.contents (Motion time x y) Done.Motion) recording.old recording.new }
 {
     if let Some(recording) = recording {
@@ -229,8 +198,8 @@ pub(crate) fn note_motion<A: Allocator + Copy, R: Write>(
 }
 
 /// A button is pressed or released.
-pub(crate) fn note_button<A: Allocator + Copy, R: Write>(
-    recording: &mut Option<Recording<A, R>>,
+pub(crate) fn note_button<R: Write>(
+    recording: &mut Option<Recording<R>>,
     time: u32,
     code: u32,
     pressed: bool,
@@ -250,8 +219,8 @@ pub(crate) fn note_button<A: Allocator + Copy, R: Write>(
 }
 
 /// What was written isn't held back any more. `Write` is answered where a write failed.
-pub(crate) fn flush_recording<A: Allocator + Copy, R: Write>(
-    recording: &mut Option<Recording<A, R>>,
+pub(crate) fn flush_recording<R: Write>(
+    recording: &mut Option<Recording<R>>,
 ) -> Result<(), TurnError>
     ensures notes { OnBoth (Flushes R.contents) recording.old recording.new }
     ensures whole { OnOk result (IsWhole recording.new) }

@@ -8,8 +8,8 @@ ghost use Rattle.wl_session.specs.NextStore.{next_store_of};
 
 use crate::error::TurnError;
 use crate::noting::{
-    flush_recording, forget_dead, note_button, note_connect, note_fed, note_gone, note_motion,
-    note_stored, settle,
+    flush_recording, note_button, note_connect, note_fed, note_gone, note_motion, note_store,
+    settle,
 };
 use std::alloc::Allocator;
 use std::io::Write;
@@ -26,7 +26,7 @@ use wl_session::{ClientNo, ConnectError, Fed, Session, StoreNo, Stored};
 #[derive(Drop)]
 pub struct Recorded<A: Allocator, R: Write> {
     pub session: Session<A>,
-    pub(crate) recording: Option<Recording<A, R>>,
+    pub(crate) recording: Option<Recording<R>>,
 }
 
 impl<A: Allocator, R: Write> Model for Recorded<A, R> {
@@ -55,14 +55,14 @@ impl<A: Allocator + Copy, R: Write> Recorded<A, R> {
     }
 
     /// A session of which nothing was asked yet. It takes no memory.
-    pub fn new(alloc: A, session: Session<A>, writer: R) -> Recorded<A, R>
+    pub fn new(session: Session<A>, writer: R) -> Recorded<A, R>
         requires { (width : ℕ) × (height : ℕ) × Agrees session.desk (empty (record { width = width; height = height })) }
         ensures session { result.session ≡ session }
         ensures recording { result.recording ≡ Some (record { written = record { writer = writer; lines = 0 }; clients = replicate 32 None; has_failed = false }) }
     {
         Recorded {
             session,
-            recording: Some(Recording::new(alloc, writer)),
+            recording: Some(Recording::new(writer)),
         }
     }
 
@@ -127,11 +127,9 @@ impl<A: Allocator + Copy, R: Write> Recorded<A, R> {
         ensures frame { self.new.session.frame ≡ self.old.session.frame }
     {
         settle(&mut self.recording, &self.session);
-        forget_dead(&mut self.recording, &self.session, client);
-        let stored = self.session.store(client, store, at, bytes);
         let place = Place { client, store, at };
-        note_stored(&mut self.recording, &place, bytes, stored);
-        stored
+        note_store(&mut self.recording, &self.session, &place, bytes);
+        self.session.store(client, store, at, bytes)
     }
 
     /// A client goes.

@@ -18,6 +18,7 @@ pub use Rattle.wl_desk.specs.Agreeing
 pub use Rattle.wl_desk.specs.Agreement
 pub use Rattle.wl_desk.specs.NextStore
 pub use Rattle.wl_desk.specs.Shown
+pub use Rattle.wl_desk.specs.StoreBytes
 pub use Rattle.wl_paint.specs.Damage
 pub use Rattle.wl_paint.specs.Frame
 pub use Rattle.wl_paint.specs.Image

@@ -10,6 +10,7 @@ ghost use Rattle.spec_desktop.specs.Desktop.{Desktop, empty};
 ghost use Rattle.wl_paint.specs.Frame.{color_at, filled, is_side};
 ghost use Rattle.spec_desktop.specs.Act.{Connect, Feed, Store, Leave, Tick, Send, Close, Motion, Button, peer_at, unsent_of, status_of, store_size_of};
 ghost use Rattle.wl_desk.specs.NextStore.{next_store_of};
+ghost use Rattle.wl_desk.specs.StoreBytes.{store_bytes_of};
 ghost use Rattle.wl_desk.specs.Feeding.{IsIdleIn};
 ghost use Rattle.wl_session.specs.Run.{AreRuns};
 ghost use Rattle.wl_session.specs.Step.{act_of};
@@ -136,6 +137,13 @@ impl<A: Allocator + Copy> Session<A> {
         ensures { (d : Desktop) → Agrees self.now.desk d → result ≡ store_size_of store (peer_at client d) }
     {
         self.desk.store_size(client, store)
+    }
+
+    /// The bytes of a client's store as they are now. `None` if the client or the store isn't live.
+    pub fn store_bytes(&self, client: ClientNo, store: StoreNo) -> Option<&[u8]>
+        ensures { (d : Desktop) → Agrees self.now.desk d → option_copied result ≡ store_bytes_of store (peer_at client d) }
+    {
+        self.desk.store_bytes(client, store)
     }
 
     /// The least number of a client's live store that is above this one. From 0 on it gives each

@@ -8,4 +8,4 @@ pub returns-in-Ok : goal.returns-in-Ok
 returns-in-Ok g c = rw c.in-Ok.is (noted-connect g.R.Write.contents c.in-Ok.client c.args.recording.now c.connect.new.self c.connect.ensures.asked c.connect.ensures.clients)
 
 pub returns-in-Err : goal.returns-in-Err
-returns-in-Err g c = rw c.in-Err.is (noted-nothing g.R.Write.contents Connect (gave.Connect (Err c.in-Err.field-0)) c.args.recording.now (λ notes. refl))
+returns-in-Err g c = rw c.in-Err.is (noted-nothing g.R.Write.contents Connect (gave.Connect (Err c.in-Err.field-0)) c.args.recording.now (λ d notes. refl))
