@@ -59,10 +59,14 @@ kept-unmarked v c piece d a x y =
 pub led-happens : (act : Act) (done : Done) (P : Desktop → Type 0) (before after : Damaged) (d : Desktop) → (led : Led P (Single act done) before after d) → Happens act done d led.desktop
 led-happens act done P before after d led = (happens_leads_through act done d led.desktop).0 led.path led.leads
 
-pub leads-step : (act : Act) (done : Done) (old new : MarkedDesk) → LeadsBy (Single act done) old new → TakesStep act done old.desk new.desk
-leads-step act done old new leads = λ d a.
+-- One thing that happens leads from what agrees with one desk to what agrees with another.
+abbrev pub LeadsOver : Happening → DeskView → DeskView → Damaged → Damaged → Type 0
+LeadsOver h old new before after = (d : Desktop) → Agrees old d → Led (Agrees new) h before after d
+
+pub leads-step : (act : Act) (done : Done) (old new : DeskView) {before after : Damaged} → LeadsOver (Single act done) old new before after → TakesStep act done old new
+leads-step act done old new {before} {after} leads = λ d a.
     let led = leads d a in
-    (led.desktop, led-happens act done (Agrees new.desk) old.damage new.damage d led, led.agrees)
+    (led.desktop, led-happens act done (Agrees new) before after d led, led.agrees)
 
 -- ---- one event
 
@@ -274,8 +278,9 @@ module _ (time : ℕ) (x y u v : ℤ) (e : u ≡ x) (f : v ≡ y) where
   same-motion : (P : Act → Type 0) → P (Motion time u v) → P (Motion time x y)
   same-motion P h = subst (λ (z : ℤ). P (Motion time x z)) f (subst (λ (z : ℤ). P (Motion time z v)) e h)
 
-  pub motion-leads : (old new : MarkedDesk) → LeadsBy (Single (Motion time u v) gave.Motion) old new → LeadsBy (Single (Motion time x y) gave.Motion) old new
-  motion-leads old new h = same-motion (λ act. LeadsBy (Single act gave.Motion) old new) h
+  pub motion-leads : (old new : DeskView) {before after : Damaged} → LeadsOver (Single (Motion time u v) gave.Motion) old new before after
+      → LeadsOver (Single (Motion time x y) gave.Motion) old new before after
+  motion-leads old new {before} {after} h = same-motion (λ act. LeadsOver (Single act gave.Motion) old new before after) h
 
   pub motion-steps : (old new : DeskView) → TakesStep (Motion time u v) gave.Motion old new → TakesStep (Motion time x y) gave.Motion old new
   motion-steps old new h = same-motion (λ act. TakesStep act gave.Motion old new) h
