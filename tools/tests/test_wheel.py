@@ -6,11 +6,11 @@ import sys
 import unittest
 
 sys.path.insert(0, str(pathlib.Path(__file__).resolve().parent))
-import wlframe  # pylint: disable=wrong-import-position
 from client import Client, Window  # pylint: disable=wrong-import-position
 from rig import Rig, has_option  # pylint: disable=wrong-import-position
 from test_display import Displays  # pylint: disable=wrong-import-position
 from toolkits import PYTHON  # pylint: disable=wrong-import-position
+import wlframe  # pylint: disable=wrong-import-position
 from wlframe import keys  # pylint: disable=wrong-import-position
 from wlframe.bridge import wheel  # pylint: disable=wrong-import-position
 
