@@ -125,6 +125,10 @@ def drag(display: Display, begin: list[int], end: list[int], steps: int = 8, but
         found.drag(tuple(begin), tuple(end), steps=steps, button=button)
 
 
+def scroll(display: Display, x: int, y: int, down: int, right: int = 0, window: str | None = None, timeout: float = 5) -> None:
+    display.scroll(*point_of(display, x, y, window, timeout), down=down, right=right)
+
+
 def type_text(display: Display, text: str, timeout: float = 5) -> None:
     window_of(display, None, timeout)
     display.type(text)
@@ -174,6 +178,7 @@ DONE: dict[str, typing.Callable] = {
     "click": click,
     "move": move,
     "drag": drag,
+    "scroll": scroll,
     "type": type_text,
     "key": key,
     "copy": copy,

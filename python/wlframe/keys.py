@@ -290,6 +290,10 @@ class Keyboard:
         """Presses a chord, as 'ctrl+a', 'Tab' or 'shift+F10'. NoKey where the layout lacks it."""
         self.put([chord_for(words, self.keymap)])
 
+    def wheel(self, down: int, right: int = 0) -> None:
+        """Turns the wheel by so many clicks, below 0 up and left. Who the pointer is over is told."""
+        self.send(f"wheel {down} {right}")
+
     def sync(self) -> None:
         """Waits until all clients were sent what came before."""
         self.count += 1

@@ -1,4 +1,4 @@
-"""What a display's keyboard and clipboard do, by the bridge. Each call returns once clients were sent it and the picture is complete."""
+"""What a display's keyboard, wheel and clipboard do, by the bridge. Each call returns once clients were sent it and the picture is complete."""
 from __future__ import annotations
 
 import contextlib
@@ -11,10 +11,11 @@ from wlframe.xkb import Missing
 
 KEYS = "keys"  # the socket's name in the display's folder
 LARGEST = 4096  # a side of a window, in points
+FURTHEST = 1000  # clicks of the wheel at once
 
 
 class Typist:
-    """The part of a display that types, copies and pastes. Keys go to the client that has the keyboard's focus: that of the window that was shown or pressed last."""
+    """The part of a display that types, scrolls, copies and pastes. Keys go to the client that has the keyboard's focus: that of the window that was shown or pressed last."""
 
     folder: pathlib.Path
 
@@ -27,6 +28,14 @@ class Typist:
 
     def explain(self) -> None:
         """Raises why server or bridge are gone, if they are."""
+        raise NotImplementedError
+
+    def need_window(self) -> None:
+        """Failure where no window is shown that could take a click."""
+        raise NotImplementedError
+
+    def move(self, x: int, y: int) -> None:
+        """Moves the pointer."""
         raise NotImplementedError
 
     def begin_input(self) -> None:
@@ -80,6 +89,16 @@ class Typist:
             self.need_focus(keyboard)
             self.begin_input()
             keyboard.press(chord)
+
+    def scroll(self, x: int, y: int, down: int = 0, right: int = 0) -> None:
+        """Moves the pointer there, and turns the wheel by so many clicks; below 0 it turns up and left. Who is under the pointer is told."""
+        if not (-FURTHEST <= down <= FURTHEST and -FURTHEST <= right <= FURTHEST):
+            raise ValueError(f"{down} and {right} clicks: give a wheel at most {FURTHEST} at once")
+        self.need_window()
+        self.move(x, y)
+        with self.at_keys() as keyboard:
+            self.begin_input()
+            keyboard.wheel(down, right)
 
     @property
     def clipboard(self) -> str | None:

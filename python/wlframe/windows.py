@@ -97,6 +97,10 @@ class Window:
         """Moves the pointer to a pixel of the window, and clicks there so often."""
         self.display.click(*self.point(x, y), button=button, count=count)
 
+    def scroll(self, x: int, y: int, down: int = 0, right: int = 0) -> None:
+        """Moves the pointer to a pixel of the window, and turns the wheel there by so many clicks; below 0 it turns up and left."""
+        self.display.scroll(*self.point(x, y), down=down, right=right)
+
     def drag(self, begin: tuple[int, int], end: tuple[int, int], steps: int = 8, button: str | int = "left") -> None:
         """Presses at one pixel of the window, moves on in steps, and releases at another. Where the window goes along the way is still from pixel to pixel of the output."""
         left, top, _, _ = self.box

@@ -3,7 +3,7 @@
     lamp.py [--size WxH] [--title TEXT] [--app-id NAME] [--geometry X,Y,W,H] [--blink X,Y,W,H] [--noise] [--after SECONDS] [--leave SECONDS] [--keys]
 
 It is dark blue at first, and then red, green and blue in turn. A press of the right button ends it with status 7, the middle one makes a bad request, and the side one
-crashes it. It writes each press with its point. With --keys it writes each key that goes down too, with the modifiers that are depressed. It takes each
+crashes it. It writes each press with its point, and each turn of the wheel. With --keys it writes each key that goes down too, with the modifiers that are depressed. It takes each
 size that it is asked to have. With --blink it changes the colour of that box all the time, each time to one that the box never had, and with --noise each pixel has a colour of its own, which stays.
 --after lets it wait before it shows its window, and --leave lets it go so long after that.
 """
@@ -74,6 +74,8 @@ class Lamp(Window):
             case "wl_pointer.button" if said.values[3]:
                 print(f"pressed {said.values[2]:#x} at {self.place[0]:g}, {self.place[1]:g}", flush=True)
                 return self.press(said.values[2])
+            case "wl_pointer.axis":
+                print(f"axis {said.values[1]} by {said.values[2]:g} at {self.place[0]:g}, {self.place[1]:g}", flush=True)
             case "wl_keyboard.modifiers":
                 self.modifiers = said.values[1]
             case "wl_keyboard.key" if said.values[3]:

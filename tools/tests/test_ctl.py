@@ -73,6 +73,8 @@ class Controls(unittest.TestCase):
         self.assertEqual(self.ctl("move", "5", "6", "--window", "Lamp"), (0, "", ""))
         self.assertEqual(self.ctl("drag", "1", "1", "9", "9", "--steps", "2", "--window", "Lamp"), (0, "", ""))
         self.assertEqual(self.ctl("drag", "1", "1", "9", "9"), (0, "", ""))
+        self.assertEqual(self.ctl("scroll", "1", "1", "-3", "2", "--window", "Lamp"), (0, "", ""))
+        self.assertEqual(self.ctl("scroll", "1", "1", "1001"), (1, "", "ctl: 1001 and 0 clicks: give a wheel at most 1000 at once\n"))
         self.assertEqual(self.ctl("wait-idle", "--ignore", "0,0,32,24", environment={"WLFRAME_VIEWER": str(self.control)}), (0, "", ""))
 
     def test_buttons_and_counts(self):

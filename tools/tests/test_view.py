@@ -19,6 +19,7 @@ import wlframe  # pylint: disable=wrong-import-position
 from wlframe import view  # pylint: disable=wrong-import-position
 
 HOST = "127.0.0.1"
+UP, DOWN = 8, 16  # the buttons of RFB that a wheel presses
 
 
 def lacks():
@@ -79,7 +80,7 @@ class Views(Displays):
         return int(place.removeprefix("http://").partition("/")[0].rpartition(":")[2])
 
     def looks_points_and_types(self, display, client, window, viewer):
-        """A viewer sees the picture, clicks and types."""
+        """A viewer sees the picture, clicks, turns the wheel and types."""
         display.wait_until_idle(0.2, LONG)
         self.assertEqual((viewer.width, viewer.height), display.size)
         self.assertEqual(viewer.picture(), display.picture().pixels)
@@ -87,6 +88,9 @@ class Views(Displays):
         for buttons in (0, 1, 0):
             viewer.point(x + 3, y + 4, buttons)
         display.wait_until(lambda: "pressed 0x110 at 3, 4" in client.output, LONG, "no press came")
+        for buttons in (DOWN, 0, UP, 0):
+            viewer.point(x + 5, y + 6, buttons)
+        display.wait_until(lambda: re.search("axis 0 by [1-9].* at 5, 6\naxis 0 by -[1-9].* at 5, 6\n", client.output), LONG, "no wheel came")
         for is_down in (1, 0):
             viewer.key(ord("a"), is_down)
         display.wait_until(lambda: "key 30 with 0" in client.output, LONG, "no key came")

@@ -1,4 +1,4 @@
-"""The socket of --keys: lines by which a test types, copies and pastes, and asks windows for a size. docs/BRIDGE.md has them all."""
+"""The socket of --keys: lines by which a test types, scrolls, copies and pastes, and asks windows for a size. docs/BRIDGE.md has them all."""
 import contextlib
 import json
 import os
@@ -17,6 +17,7 @@ MOST = 1 << 26  # bytes of a line, or of what is pasted
 PIECE = 65536
 LAST_CODE = 0x2FF  # of linux/input-event-codes.h
 LARGEST = 4096  # a side of a window, in points
+FURTHEST = 1000  # clicks of the wheel at once
 WANTED = ("text/plain;charset=utf-8", "UTF8_STRING", "text/plain", "STRING", "TEXT")  # what is pasted, the best first
 
 
@@ -29,6 +30,11 @@ def number(word: str, most: int, what: str) -> int:
     if not (word.isascii() and word.isdigit() and len(word) < 12 and int(word) <= most):
         raise Bad(f"{what} has to be a number from 0 to {most}, not {word[:20]}")
     return int(word)
+
+
+def clicks(word: str) -> int:
+    """A word as a number of clicks, below 0 the other way."""
+    return number(word, FURTHEST, "clicks down or right") if not word.startswith("-") else -number(word[1:], FURTHEST, "clicks up or left, behind -,")
 
 
 def string(text: str, what: str) -> str:
@@ -54,7 +60,7 @@ class Orders:
         if not name or name.startswith("#"):
             return ""
         do = {"key": self.key, "sync": self.sync, "copy": self.copy, "paste": self.paste, "size": self.size, "focus": self.focus}
-        do |= {"keymap": self.keymap, "layout": self.layout, "letters": self.letters}
+        do |= {"keymap": self.keymap, "layout": self.layout, "letters": self.letters, "wheel": self.wheel}
         if name not in do:
             raise Bad(f"{name[:20]} is no order")
         return do[name](rest)
@@ -69,6 +75,16 @@ class Orders:
         code, is_down = number(code, LAST_CODE, "a key's code"), number(state, 1, "a key's state")
         self.keyboard().key(code, bool(is_down))
         (self.down.add if is_down else self.down.discard)(code)
+        return ""
+
+    def wheel(self, rest: str) -> str:
+        words = rest.split(" ")
+        if len(words) != 2:
+            raise Bad("write wheel DOWN RIGHT: clicks, below 0 up and left")
+        down, right = map(clicks, words)
+        if not self.seat.wheel.settle(PATIENCE):
+            raise Bad("the server doesn't answer")
+        self.seat.wheel.click(down, right)
         return ""
 
     def sync(self, rest: str) -> str:

@@ -204,7 +204,7 @@ REWRITINGS = (
         "event",
         f"shows {', '.join(f'{name} as version {version}' for name, version in SHOWN.items())}, and besides the bridge's own globals (below)",
         "clients leave where they find less, or bind a later version without looking (foot, wev)",
-        "as exact as the rows below; what versions 6 and 7 of wl_seat brought is never sent, nor is a wheel's axis",
+        "as exact as the rows below; what versions 6 and 7 of wl_seat brought is never sent",
         show_global,
     ),
     Rewriting(

@@ -1,4 +1,4 @@
-"""The seat as clients see it: the server's pointer, and beside it the bridge's keyboard, clipboard and other globals, of which the server isn't told."""
+"""The seat as clients see it: the server's pointer, and beside it the bridge's wheel, keyboard, clipboard and other globals, of which the server isn't told."""
 import typing
 
 from wlframe.bridge import own
@@ -10,6 +10,7 @@ from wlframe.bridge.rewrites import request
 from wlframe.bridge.screencopy import Shots
 from wlframe.bridge.virtual_keyboard import VirtualKeyboards
 from wlframe.bridge.virtual_pointer import VirtualPointers
+from wlframe.bridge.wheel import Wheel
 from wlframe.bridge.xdg_output import Outputs
 from wlframe.xkb import Missing
 
@@ -23,6 +24,7 @@ class Seat:
         self.focus, self.viewing = Focus(self.moved), viewing
         self.clipboard, self.primary = Clipboard(self.focus, CLIPBOARD), Clipboard(self.focus, PRIMARY)
         self.clients: dict[int, Seated] = {}  # by number
+        self.wheel = Wheel(self)
         self.keyboard, self.why_none = None, "it was asked for none"
         if layout is not None:
             try:
@@ -61,7 +63,7 @@ class Seated:
         self.parts: dict[str, typing.Any] = {**self.devices, "zxdg_output": Outputs(client), "zwlr_data": Control(client, (seat.clipboard, seat.primary))}
         self.parts |= {"wl_keyboard": self.keyboards, "zwp_virtual": virtual} if virtual is not None else {}
         if seat.viewing is not None:
-            self.parts |= {"zwlr_virtual": VirtualPointers(client, seat.viewing), "zwlr_screencopy": Shots(client, seat.viewing)}
+            self.parts |= {"zwlr_virtual": VirtualPointers(client, seat.viewing, seat.wheel), "zwlr_screencopy": Shots(client, seat.viewing)}
 
     def follow(self, said: typing.Any, made: typing.Any) -> None:
         """A request goes to the server, and makes an object where one is given."""

@@ -110,13 +110,13 @@ class Connection:
             ready = dict(poll.poll())
             send(self.near, client.to_client, ready.get(near, 0), client.to_client_descriptors)
             send(self.far, client.to_server, ready.get(far, 0))
-            if woken in ready:
-                client.posts.run()
             if ready.get(far, 0) & INWARDS and not self.take_events():
                 self.flush_client()
                 if not client.is_refused and not self.bridge.is_ending:
                     client.tell_end(self.bridge.why_ended())
                 return
+            if woken in ready:  # behind the events that came before what was posted
+                client.posts.run()
             if ready.get(near, 0) & INWARDS and not self.take_requests():
                 self.leave()
                 return
@@ -420,7 +420,7 @@ def asked():
     reads.add_argument("--links", action="store_true", help="make links, and let the server read whole pools, not only the parts that changed")
     parser.add_argument("--files", type=count, default=files(), metavar="N", help="let a client have so many pools and side files at once (%(default)s here)")
     parser.add_argument("--space", type=megabytes, default=SPACE << 20, metavar="MB", help=f"copy so much of a client's memory at most ({SPACE})")
-    parser.add_argument("--keys", metavar="PATH", help="make a socket that takes lines which type, copy and paste (docs/BRIDGE.md has them)")
+    parser.add_argument("--keys", metavar="PATH", help="make a socket that takes lines which type, scroll, copy and paste (docs/BRIDGE.md has them)")
     parser.add_argument("--viewer", metavar="PATH", help="the server's viewer socket; with it clients may take pictures and point")
     parser.add_argument("--view", metavar="PATH", help="make a socket like the server's viewer socket, for any number of viewers; it needs --viewer")
     keys = parser.add_mutually_exclusive_group()

@@ -5,6 +5,7 @@
     click X Y [--button NAME] [--count N] [--window TITLE]      moves the pointer there and clicks: left, right, middle, side, extra or a number
     move X Y [--window TITLE]                                   moves the pointer
     drag X Y X Y [--steps N] [--button NAME] [--window TITLE]   presses at the first point, moves on in steps, and releases at the other
+    scroll X Y DOWN [RIGHT] [--window TITLE]                    moves the pointer there and turns the wheel by clicks; below 0 up and left
     type TEXT                                                   types a text into the window that has the focus
     key CHORD                                                   presses a key, with others held: Tab, ctrl+a, shift+F10
     copy TEXT                                                   copies a text, which clients paste
@@ -37,7 +38,7 @@ from wlframe.places import box
 
 NAME = os.path.basename(sys.argv[0])
 FAILED, TIME_OVER = 1, 124
-COMMANDS = ("click", "move", "drag", "type", "key", "copy", "paste", "resize", "shot", "windows", "wait-idle", "wait-window")
+COMMANDS = ("click", "move", "drag", "scroll", "type", "key", "copy", "paste", "resize", "shot", "windows", "wait-idle", "wait-window")
 LATE = 60.0  # seconds that an answer may come behind the time that was asked
 
 
@@ -60,15 +61,17 @@ def parser_of():
     made = {it: commands.add_parser(it) for it in COMMANDS}
     for name, each in made.items():
         each.add_argument("--timeout", type=seconds, default=30.0 if name == "wait-idle" else 5.0, metavar="S")
-        if name in ("click", "move", "drag"):
+        if name in ("click", "move", "drag", "scroll"):
             for point in ("x", "y") if name != "drag" else ("x", "y", "to_x", "to_y"):
                 each.add_argument(point, type=int)
         if name in ("click", "drag"):
             each.add_argument("--button", type=button, default="left", metavar="NAME")
-        if name in ("click", "move", "drag", "resize", "shot"):
+        if name in ("click", "move", "drag", "scroll", "resize", "shot"):
             each.add_argument("--window", metavar="TITLE")
     made["click"].add_argument("--count", type=int, default=1, metavar="N")
     made["drag"].add_argument("--steps", type=int, default=8, metavar="N")
+    made["scroll"].add_argument("down", type=int, metavar="DOWN")
+    made["scroll"].add_argument("right", type=int, nargs="?", default=0, metavar="RIGHT")
     for name in ("type", "copy"):
         made[name].add_argument("text", metavar="TEXT")
     made["key"].add_argument("chord", metavar="CHORD")
