@@ -12,6 +12,7 @@ mod calls;
 #[cfg(test)]
 mod children;
 #[cfg(test)]
+mod combs;
 #[cfg(test)]
 mod damage;
 #[cfg(test)]

@@ -2,7 +2,7 @@
 
 use crate::replay::support::{OneFile, play_with, played};
 use std::alloc::Global;
-use wl_replay::{ReplayError, SideFiles, Summary};
+use wl_replay::{Config, ReplayError, Rgb, SideFiles, Summary, replay};
 
 /// get_registry(2), and binds of wl_compositor as 3, wl_shm as 4 and xdg_wm_base as 5; then
 /// create_pool(9, 12800), and two buffers of 40 by 40.
@@ -117,6 +117,92 @@ fn first_missed_file(alloc: Global, lines: &[Line]) -> Option<Option<usize>> {
 #[test]
 fn files_come_into_a_store(rt: HostRuntime) {
     assert_eq!(rt; first_missed_file(rt.alloc(), FILES), Some(None));
+}
+
+/// create_surface(6), get_xdg_surface(7, 6), get_toplevel(8), a commit and its ack_configure(1);
+/// then the buffer 12 of 40 by 80 pixels, which is all of the pool, the file, and the buffer
+/// attached and committed with all of it damaged.
+const SHOWS: &[u8] = b"bytes 1 03000000 00000c00 06000000
+bytes 1 05000000 02001000 07000000 06000000
+bytes 1 07000000 01000c00 08000000
+bytes 1 06000000 06000800
+bytes 1 07000000 04000c00 01000000
+bytes 1 09000000 00002000 0c000000 00000000 28000000 50000000 a0000000 01000000
+file 1 1 0 a
+bytes 1 06000000 01001400 0c000000 00000000 00000000
+bytes 1 06000000 02001800 00000000 00000000 28000000 50000000
+bytes 1 06000000 06000800
+tick 0
+";
+
+/// As large as the buffer.
+const TALL: Config = Config {
+    width: 40,
+    height: 80,
+    background: Rgb { r: 0, g: 0, b: 0 },
+};
+
+/// The byte of a file at a place. Those of 251 bytes differ, so that no part of it is taken for
+/// another.
+fn byte_at(place: usize) -> u8 {
+    (place % 251) as u8
+}
+
+fn patterned(alloc: Global, count: usize) -> Option<Vec<u8>> {
+    let mut bytes = Vec::new(alloc);
+    for place in 0..count {
+        bytes.push(byte_at(place)).ok()?;
+    }
+    Some(bytes)
+}
+
+/// The image of the buffer once the file came into its store. None where the recording isn't played
+/// to its end.
+fn image_with(alloc: Global, file: &[u8]) -> Option<Vec<u8>> {
+    let recording = after_pool(alloc, SHOWS)?;
+    let mut reader = recording.as_slice();
+    let mut report = Vec::new(alloc);
+    let mut images = Some(Vec::new(alloc));
+    let mut side = OneFile::new("a", file);
+    let played = replay(
+        alloc,
+        TALL,
+        &mut reader,
+        &mut report,
+        &mut images,
+        &mut side,
+    );
+    if played.is_ok() { images } else { None }
+}
+
+/// Whether each of the 3,200 points has the bytes of the file at its place: blue, green and red,
+/// and one that isn't shown.
+fn shows_pattern(image: &[u8]) -> bool {
+    let Some(colors) = image.strip_prefix(b"P6\n40 80\n255\n".as_slice()) else {
+        return false;
+    };
+    for (point, color) in colors.chunks_exact(3).enumerate() {
+        let at = point.saturating_mul(4);
+        let red = byte_at(at.saturating_add(2));
+        let green = byte_at(at.saturating_add(1));
+        if color != [red, green, byte_at(at)].as_slice() {
+            return false;
+        }
+    }
+    colors.len() == 9_600
+}
+
+/// Whether all bytes of a file that is one byte too long are shown but the last. None where there
+/// is no image.
+fn is_shown_whole(alloc: Global) -> Option<bool> {
+    let file = patterned(alloc, 12_801)?;
+    let image = image_with(alloc, file.as_slice())?;
+    Some(shows_pattern(image.as_slice()))
+}
+
+#[test]
+fn files_are_shown_as_they_are(rt: HostRuntime) {
+    assert_eq!(rt; is_shown_whole(rt.alloc()), Some(true));
 }
 
 #[test]
