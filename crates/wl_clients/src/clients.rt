@@ -150,8 +150,8 @@ impl<A: Allocator + Copy> Clients<A> {
 
     /// Takes the first whole message of a living client. `None` if there is none; then nothing
     /// changes. What the message changes is marked; if the client ends by it, its windows are. If
-    /// the answer doesn't say that it changes hits, and the client lives on, each point hits what it
-    /// hit. The usual commit changes none: the windows are as large as before, stand where they
+    /// the answer doesn't say that it changes hits, and the client lives on, each point hits what
+    /// it hit. The usual commit changes none: the windows are as large as before, stand where they
     /// stood, and take input where they did.
     ///
     /// Without a seat for a new wl_pointer, a client that asks for one ends as out of memory.

@@ -119,9 +119,9 @@ fn files_come_into_a_store(rt: HostRuntime) {
     assert_eq!(rt; first_missed_file(rt.alloc(), FILES), Some(None));
 }
 
-/// create_surface(6), get_xdg_surface(7, 6), get_toplevel(8), a commit and its ack_configure(1);
-/// then the buffer 12 of 40 by 80 pixels, which is all of the pool, the file, and the buffer
-/// attached and committed with all of it damaged.
+/// create_surface(6), get_xdg_surface(7, 6), get_toplevel(8), a commit and its ack_configure(1).
+/// Then the buffer 12 of 40 by 80 pixels, which is all of the pool, and the file. Last the buffer
+/// is attached and committed, with all of it damaged.
 const SHOWS: &[u8] = b"bytes 1 03000000 00000c00 06000000
 bytes 1 05000000 02001000 07000000 06000000
 bytes 1 07000000 01000c00 08000000

@@ -162,8 +162,8 @@ impl<A: Allocator + Copy> Screen<A> {
     }
 
     /// Takes the first whole message of a living client, which asks this. `None` if there is none.
-    /// The answer is what it asks of the pointer, and whether it may have changed what points hit. A
-    /// message that leaves the windows of its client in their places, each as large, and sets no
+    /// The answer is what it asks of the pointer, and whether it may have changed what points hit.
+    /// A message that leaves the windows of its client in their places, each as large, and sets no
     /// new input region doesn't.
     ///
     /// What it changes of a toplevel's windows is marked. Of those that stay in their places that
