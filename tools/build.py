@@ -203,11 +203,21 @@ def prove(crates, what):
     build.run()
 
 
-def provide_below(crate):
-    """Proves what the crate stands on where a library of it isn't there. After an edit below, those of the last build stay."""
-    if not all(os.path.exists(it.made) for it in crate.below()):
+def provide_below(crate, but=()):
+    """Proves what the crate stands on, but these crates, where a library of it isn't there. After an edit below, those of the last build stay."""
+    wanted = [it for it in crate.below() if it not in but]
+    if not all(os.path.exists(it.made) for it in wanted):
         with alone():
-            prove(crate.below(), f"what is below {crate.name}")
+            prove(wanted, f"what is below {crate.name}")
+
+
+def upwards(names, crate):
+    """Returns the crates of these names that are below this one, and those between that stand on them, lowest first."""
+    named = [kit.crate_named(it) for it in names]
+    for it in named:
+        if it not in crate.below():
+            sys.exit(f"{crate.name} doesn't stand on {it.name}")
+    return [it for it in crate.below() if it in named or any(low in named for low in it.below())]
 
 
 def prove_changed(upper):

@@ -73,21 +73,24 @@ def version():
     return subprocess.run(["rt", "version"], stdout=subprocess.PIPE, text=True, check=True).stdout
 
 
-def words(crate, jobs, *more):
-    """Returns the flags that name to rattle a crate and what it is proved over, and these besides."""
+def words(crate, jobs, *more, sources=()):
+    """Returns the flags that name to rattle a crate and what it is proved over, and these besides. Of the crates `sources` it reads the files, and not the library."""
     found = ["--crate-name", crate.name, "src/main.rt" if crate.is_program else "src/lib.rt", "--links", f"{crate.name}=", "--jobs", str(jobs)]
     found += ["--antt-project", f"{folder()}/rattle/logic/antt-project.json", "--logic-built", f"{folder()}/logic_built"]
     found += ["-L", f"dependency={folder()}/rlibs", "-L", f"dependency={KEPT}"]
-    for it in ("std", *crate.uses):
-        found += ["--extern", f"{it}={KEPT if it in crates() else f'{folder()}/rlibs'}/{it}.rlib"]
+    for it in dict.fromkeys(("std", *crate.uses, *(used for it in sources for used in it.uses))):
+        if crates().get(it) not in sources:
+            found += ["--extern", f"{it}={KEPT if it in crates() else f'{folder()}/rlibs'}/{it}.rlib"]
+    for it in sources:
+        found += ["--lib", f"{it.name}:{','.join(('std', *it.uses))}={it.folder}/src/lib.rt"]
     if crate.is_static and "--test" not in more:
         found += ["--crate-type", "staticlib"]
     return [*found, *more]
 
 
-def check_words(crate, *more, jobs=1, keeps=None):
+def check_words(crate, *more, jobs=1, keeps=None, sources=()):
     """Returns the command that checks the crate in the folder it runs in, with more flags of `rattle check`. What is proved is kept in the folder `keeps`."""
-    return [f"{folder()}/bin/rattle", "check", *words(crate, jobs, *more), *(["--incremental", keeps] if keeps else [])]
+    return [f"{folder()}/bin/rattle", "check", *words(crate, jobs, *more, sources=sources), *(["--incremental", keeps] if keeps else [])]
 
 
 def build_words(crate, jobs):

@@ -167,6 +167,17 @@ class Builds(unittest.TestCase):
         self.put("crates/low/src/lib.rt", "// low, changed\n")
         self.expect(self.call("mid", "--test", script="tools/check"), ["check mid"], out="reading\nlogic=proved functions=1\n")
 
+    def test_one_crate_is_checked_over_sources(self):
+        """Lower crates that aren't proved are read as they are, and so is each crate between."""
+        (self.room / "crates" / "low" / "src" / "lib.rt").write_text("// wrong\n")
+        done = self.call("wlframe", "--sources", "low", "--only", "wlframe::main", script="tools/check")
+        self.expect(done, ["check wlframe"], out="reading\nlogic=proved functions=1\n")
+        self.assertFalse(self.kept.exists() and any(it.suffix == ".rlib" for it in self.kept.iterdir()))
+        done = self.call("wlframe", "--sources", "low", script="tools/check")
+        self.assertEqual((done.returncode, done.stderr.partition(",")[0]), (1, "tools/check: with --sources name a function by --only"))
+        done = self.call("low", "--sources", "mid", "--only", "low::a", script="tools/check")
+        self.assertEqual((done.returncode, done.stderr), (1, "low doesn't stand on mid\n"))
+
     def test_what_changed_is_checked(self):
         self.all_built()
         self.assertEqual(self.call("--changed", "high", script="tools/check").returncode, 2)
