@@ -3,7 +3,15 @@
 #![tactic(auto)]
 
 #[cfg(test)]
+mod chance;
+#[cfg(test)]
+mod drawing;
+#[cfg(test)]
+mod drips;
+#[cfg(test)]
 mod hub;
+#[cfg(test)]
+mod looking;
 pub mod memory;
 #[cfg(test)]
 mod motions;
@@ -21,5 +29,7 @@ mod slow;
 mod sockets;
 #[cfg(test)]
 mod turns;
+#[cfg(test)]
+mod updates;
 #[cfg(test)]
 mod writers;

@@ -1,6 +1,6 @@
 //! A session that is served over any hub, turn by turn.
 
-use crate::memory::MemoryHub;
+use crate::memory::{Client, MemoryHub};
 use std::alloc::Global;
 use wl_recording::SideFiles;
 use wl_server::{Connections, Hub, Recorded, Service, turn};
@@ -11,6 +11,13 @@ pub(crate) const CONFIG: Config = Config {
     height: 1,
     background: Rgb { r: 0, g: 0, b: 0 },
 };
+
+/// A hub with a client that sends these bytes. None where there is no memory.
+pub(crate) fn hub_of<'a>(alloc: Global, sends: &'a [u8]) -> Option<MemoryHub<'a>> {
+    let mut clients = Vec::new(alloc);
+    clients.push(Client::new(alloc, sends)).ok()?;
+    Some(MemoryHub::new(clients, 4096))
+}
 
 /// A session that is served over a hub.
 pub(crate) type Served<H, S> = Service<Global, Vec<u8>, H, S>;
