@@ -253,8 +253,9 @@ class Windows(WithWindow):
             # its surface goes on showing what it was
             memory.fill(begin, 20, 10, OPAQUE | RED)
             self.client.put(self.window.surface, "damage", 0, 0, 20, 10)
+            shown = self.client.put(self.window.surface, "frame")
             self.client.send(self.window.surface, "commit")
-            self.client.round_trip()
+            self.client.until("wl_callback.done", shown)  # so that each has a frame of its own
         self.expect(4, 200, {(0, 0): GREEN, (19, 9): GREEN})
 
     def test_buffer_outside_of_a_large_pool(self):
